@@ -1,0 +1,14 @@
+mod Lists
+mod Places
+mod Knowledge
+mod Machines
+mod History
+mod Judges
+mod Moments
+mod Draws
+mod Secrets
+mod Secrecy
+mod Acceptances
+mod Openings
+mod Liveness
+mod Main
