@@ -14,16 +14,16 @@ use Rattle.model.specs.Promise.{OneMore, Was, Judged, Fresh, Acceptances}
 use Rattle.model.proofs.Lists.{keeps, old-or-new, one-more-map, middle, Apart, apart-middle, falling-below}
 use Rattle.model.proofs.Machines.{sound}
 use Rattle.model.proofs.History.{Asks, Takes, history}
-use Rattle.model.proofs.Judges.{turns, open-before, settled}
+use Rattle.model.proofs.Judges.{Asked, turns, settled}
 use Rattle.model.proofs.Moments.{all-along, join, asked-along, closed-along, since}
 use Rattle.model.proofs.Draws.{Purpose, Undrawn, ToAsk, ToClose, Done}
 use Rattle.model.proofs.Secrets.{Public, SignedOn, knows, known-safe}
 
-same-given : {s t : Term} {p r : List Digest} → statement s p ≡ statement t r → s ≡ t
-same-given e = cc
+same-given : (s t : Term) (p r : List Digest) → statement s p ≡ statement t r → s ≡ t
+same-given s t p r e = cc
 
-same-row : {s t : Term} {p r : List Digest} → statement s p ≡ statement t r → p ≡ r
-same-row e = cc
+same-row : (s t : Term) (p r : List Digest) → statement s p ≡ statement t r → p ≡ r
+same-row s t p r e = cc
 
 -- whoever has the nonce of a question, at a moment of the run, has it after it was asked
 asked-by-then : {pr : Programs} {k : ℕ} {w : World} {l : Run pr k made w} (m : Moment pr l) (q : Question) → List·Memᴰ q (w .asked) → Derives (m .world .heard) (honest (q .nonce)) → List·Memᴰ q (m .world .asked)
@@ -31,10 +31,13 @@ asked-by-then {pr} {w = w} {l = l} m q asked d = go (knows (m .reached) .draws .
   where
     until : (j : ℕ) × Run pr j (m .world) w
     until = since (m .on-way)
+
     for-it : knows l .draws .purpose (q .nonce) ≡ ToAsk q
     for-it = knows l .draws .asked-for q asked
+
     done-then : (p : Purpose) → knows (m .reached) .draws .purpose (q .nonce) ≡ p → Done (λ a. m .world .machines a .closed) (m .world .asked) (q .nonce) p
     done-then p e = subst (λ p. Done (λ a. m .world .machines a .closed) (m .world .asked) (q .nonce) p) e (knows (m .reached) .draws .done (q .nonce))
+
     go : (p : Purpose) → knows (m .reached) .draws .purpose (q .nonce) ≡ p → Public (m .reached) (knows (m .reached) .draws .purpose (q .nonce)) → List·Memᴰ q (m .world .asked)
     go Undrawn e h = absurd (subst (λ p. Public (m .reached) p) e h)
     go (ToAsk z) e h =
@@ -54,13 +57,16 @@ was : {pr : Programs} {k : ℕ} {w v : World} (l : Run pr k made w) (c : Accepta
 was {pr} l c asked t =
     record {
       moment = h .moment;
-      asked-first = asked-by-then (h .moment) (c .question) asked (subst (λ u. Derives (h .moment .world .heard) u) (sym (same-given (h .is))) (h .had));
-      register-was = sym (same-row (h .is));
-      ran-was = λ good. sound (h .moment .reached) (c .question .chip) .rows .register-true (ap (allGood (pr .good)) (sym (same-row (h .is))) ∙ good) ∙ sym (same-row (h .is))
+      asked-first = asked-by-then (h .moment) (c .question) asked (subst (λ u. Derives (h .moment .world .heard) u) (sym (same-given (honest (c .question .nonce)) (h .given) (c .row) _ (h .is))) (h .had));
+      register-was = sym row-is;
+      ran-was = λ good. sound (h .moment .reached) (c .question .chip) .rows .register-true (ap (allGood (pr .good)) (sym row-is) ∙ good) ∙ sym row-is;
     }
   where
     h : SignedOn l (c .question .chip) (statement (honest (c .question .nonce)) (c .row))
     h = known-safe (knows l) (t .signed) .0
+
+    row-is : c .row ≡ h .moment .world .machines (c .question .chip) .register
+    row-is = same-row (honest (c .question .nonce)) (h .given) (c .row) _ (h .is)
 
 judged : {pr : Programs} {k : ℕ} {w v : World} (l : Run pr k made w) (c : Acceptance) → Takes w v c → Judged pr l c
 judged {pr} {w = w} l c t =
@@ -69,16 +75,17 @@ judged {pr} {w = w} l c t =
       chip-known = subst (λ j. List·Memᴰ (c .question .chip) (w .judges j .chips)) (sym (its .1)) (t .chip-known);
       row-listed = subst (λ j. List·Memᴰ (c .row) (w .judges j .lists)) (sym (its .1)) (t .row-listed);
       row-begins = settled l .fair (t .judge) .lists-begin (c .row) (t .row-listed);
-      was = was l c (its .0) t
+      was = was l c (its .0) t;
     }
   where
     opened : List·Memᴰ (c .question) (w .judges (t .judge) .questions)
     opened = subst (λ qs. List·Memᴰ (c .question) qs) (sym (t .was-open)) (middle (t .newer) (t .older) (c .question))
+
     its : List·Memᴰ (c .question) (w .asked) × (c .question .judge ≡ t .judge)
     its = settled l .fair (t .judge) .open-asked (c .question) opened
 
 fresh : {pr : Programs} {k : ℕ} {w v : World} (l : Run pr k made w) (q : Question) → Asks w v q → Fresh w q
-fresh {w = w} l q a = record { chip-known = a .chip-known; unknown = λ d. subst (λ p. Public l p) (knows l .draws .undrawn (q .nonce) (let new : q .nonce ≡ w .next = a .nonce-is in omega arith)) (known-safe (knows l) d (q .nonce) refl) }
+fresh {w = w} l q a = record { chip-known = a .chip-known; unknown = λ d. subst (λ p. Public l p) (knows l .draws .undrawn (q .nonce) (a .new)) (known-safe (knows l) d (q .nonce) refl) }
 
 -- q was asked and is not open, and all acceptances of it stand in this list
 record Over (pr : Programs) (q : Question) (accepted : List Acceptance) (v : World) : Type 0 where
@@ -90,11 +97,12 @@ record Over (pr : Programs) (q : Question) (accepted : List Acceptance) (v : Wor
 
 over-step : {pr : Programs} (q : Question) (accepted : List Acceptance) (w v : World) → Step pr w v → Over pr q accepted w → Over pr q accepted v
 over-step {pr} q accepted w v s o =
-    record { steps = suc (o .steps); reached = onward (o .reached) s; was-asked = keeps (history s .asked) (o .was-asked); not-open = λ m. shut (open-before (turns s (q .judge)) q m); no-more = λ c m e. none c e (old-or-new (history s .accepted) m) }
+    record { steps = suc (o .steps); reached = onward (o .reached) s; was-asked = keeps (history s .asked) (o .was-asked); not-open = λ m. shut (turns s (q .judge) .open-old q m); no-more = λ c m e. none c e (old-or-new (history s .accepted) m) }
   where
-    shut : List·Memᴰ q (w .judges (q .judge) .questions) ⊎ (q .nonce ≡ w .next) → ⊥
+    shut : List·Memᴰ q (w .judges (q .judge) .questions) ⊎ Asked w v (q .judge) q → ⊥
     shut (inl m) = o .not-open m
-    shut (inr e) = let below : q .nonce < w .next = falling-below (λ z. z .nonce) _ (settled (o .reached) .asked-falling) (o .was-asked) in absurd (omega arith)
+    shut (inr (new, _, _)) = let below : q .nonce < w .next = falling-below (λ z. z .nonce) _ (settled (o .reached) .asked-falling) (o .was-asked) in absurd (omega arith)
+
     none : (c : Acceptance) → c .question ≡ q → List·Memᴰ c (w .accepted) ⊎ ((z : Acceptance) × (c ≡ z) × Takes w v z) → List·Memᴰ c accepted
     none c e (inl m) = o .no-more c m e
     none c e (inr (z, same, t)) =
@@ -107,5 +115,5 @@ acceptances {pr} {k} {w} l =
       judged = λ v s. one-more-map (λ c t. judged l c t) (history s .accepted);
       once = λ c e newer older is m same. apart-middle (λ c. c .question .nonce) newer older c (subst (λ cs. Apart (λ c. c .question .nonce) cs) is (settled l .apart)) m same;
       never-again = λ q asked shut i v r. all-along (Over pr q (w .accepted)) (over-step q (w .accepted)) r (record { steps = k; reached = l; was-asked = asked; not-open = shut; no-more = λ c m _. m }) .no-more;
-      asks-fresh = λ v s. one-more-map (fresh l) (history s .asked)
+      asks-fresh = λ v s. one-more-map (fresh l) (history s .asked);
     }

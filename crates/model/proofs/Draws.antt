@@ -47,7 +47,7 @@ draws-none {q = q} {r = r} {n} {k} grow back e f o =
       done = λ m. done-on grow (λ z h. subst (λ l. List·Memᴰ z l) (sym e) h) m (o .purpose m) (o .done m);
       undrawn = λ m up. o .undrawn m (omega arith);
       asked-for = λ z h. o .asked-for z (subst (λ l. List·Memᴰ z l) e h);
-      closed-for = λ a x h t. o .closed-for a x (back a x h t) t
+      closed-for = λ a x h t. o .closed-for a x (back a x h t) t;
     }
 
 -- nonce n was drawn for p
@@ -58,19 +58,20 @@ module _ {c : ℕ → List Thing} {q : List Question} {n : ℕ} (o : Draws c q n
   pub purpose-kept : (m : ℕ) (y : Purpose) → (y ≡ Undrawn → ⊥) → o .purpose m ≡ y → purposes m ≡ y
   purpose-kept m y drawn = at-all (λ k z. o .purpose k ≡ y → z ≡ y) n p (o .purpose) (λ e. absurd (drawn (sym e ∙ o .undrawn n (omega arith)))) (λ k _ e. e) m
 
-  abbrev pub draws-one : {d : ℕ → List Thing} {r : List Question} → ((a : ℕ) (x : Thing) → List·Memᴰ x (c a) → List·Memᴰ x (d a)) → ((z : Question) → List·Memᴰ z q → List·Memᴰ z r) → Done d r n p → ((z : Question) → List·Memᴰ z r → List·Memᴰ z q ⊎ ((z .nonce ≡ n) × (p ≡ ToAsk z))) → ((a : ℕ) (x : Thing) → List·Memᴰ x (d a) → x .secret ≡ true → List·Memᴰ x (c a) ⊎ ((x .what ≡ honest n) × (p ≡ ToClose a x))) → Draws d r (suc n)
-  draws-one {d} {r} grow more new asked-case closed-case =
+  abbrev pub draws-one : {d : ℕ → List Thing} {r : List Question} {k : ℕ} → k ≡ suc n → ((a : ℕ) (x : Thing) → List·Memᴰ x (c a) → List·Memᴰ x (d a)) → ((z : Question) → List·Memᴰ z q → List·Memᴰ z r) → Done d r n p → ((z : Question) → List·Memᴰ z r → List·Memᴰ z q ⊎ ((z .nonce ≡ n) × (p ≡ ToAsk z))) → ((a : ℕ) (x : Thing) → List·Memᴰ x (d a) → x .secret ≡ true → List·Memᴰ x (c a) ⊎ ((x .what ≡ honest n) × (p ≡ ToClose a x))) → Draws d r k
+  draws-one {d} {r} {k} on grow more new asked-case closed-case =
       record {
         purpose = purposes;
         done = at-all (λ m y. Done d r m y) n p (o .purpose) new (λ m _. done-on grow more m (o .purpose m) (o .done m));
-        undrawn = at-all (λ m y. suc n ≤ m → y ≡ Undrawn) n p (o .purpose) (λ up. absurd (omega arith)) (λ m _ up. o .undrawn m (omega arith));
+        undrawn = at-all (λ m y. k ≤ m → y ≡ Undrawn) n p (o .purpose) (λ up. absurd (omega arith)) (λ m _ up. o .undrawn m (omega arith));
         asked-for = λ z h. for-question z (asked-case z h);
-        closed-for = λ a x h t. for-thing a x t (closed-case a x h t)
+        closed-for = λ a x h t. for-thing a x t (closed-case a x h t);
       }
     where
       for-question : (z : Question) → List·Memᴰ z q ⊎ ((z .nonce ≡ n) × (p ≡ ToAsk z)) → purposes (z .nonce) ≡ ToAsk z
       for-question z (inl h) = purpose-kept (z .nonce) (ToAsk z) (λ e. grind arith) (o .asked-for z h)
       for-question z (inr (e, f)) = ap purposes e ∙ at-same n p (o .purpose) ∙ f
+
       for-thing : (a : ℕ) (x : Thing) → x .secret ≡ true → List·Memᴰ x (c a) ⊎ ((x .what ≡ honest n) × (p ≡ ToClose a x)) → (m : ℕ) × (x .what ≡ honest m) × (purposes m ≡ ToClose a x)
       for-thing a x t (inl h) = let (m, e, f) = o .closed-for a x h t in (m, e, purpose-kept m (ToClose a x) (λ z. grind arith) f)
       for-thing a x t (inr (e, f)) = (n, e, at-same n p (o .purpose) ∙ f)

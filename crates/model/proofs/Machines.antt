@@ -4,80 +4,15 @@ use mathlib.Core.Bool.{Bool, true, false, true≢false, and-eq-true-iff}
 use mathlib.Core.Logic.{_⊎_, inl, inr}
 use mathlib.Core.List.{List, [], _∷_, _++_, List·Memᴰ, List·Memᴰ·head, List·Memᴰ·tail, List·Memᴰ·not-nil}
 use Prim.Native.Nat.{ℕ, suc, _≤_, _<_}
-use native.Mathlib.Nat.{le-refl, le-trans}
 use native.Mathlib.Omega.{arith}
-use Rattle.model.specs.Term.{Term, Digest}
-use Rattle.model.specs.World.{Programs, Target, Thing, Machine, World, allGood}
-use Rattle.model.specs.Effect.{at, new-machine, switched, loaded, put-unloaded, loaded-unput, counted, passed-over, with-thing, thing, made}
-use Rattle.model.specs.Step.{Clean, Tainted, Step, switches, boots, loads, puts-only, loads-only, signs, counts, closes, closes-given, passes-over, opens, opens-told, takes-chip, takes-list, asks, puts-out, falls, accepts}
+use Rattle.model.specs.Term.{Digest}
+use Rattle.model.specs.World.{Programs, Thing, Machine, World, allGood}
+use Rattle.model.specs.Effect.{at, made}
+use Rattle.model.specs.Step.{Step, switches, boots, loads, puts-only, loads-only, signs, counts, closes, closes-given, passes-over, opens, opens-told, takes-chip, takes-list, asks, puts-out, falls, accepts}
 use Rattle.model.specs.Run.{Run, here, onward}
 use Rattle.model.specs.Promise.{Begins, OneMore, Next}
 use Rattle.model.proofs.Lists.{keeps, Falling, falling-up}
 use Rattle.model.proofs.Places.{at-all}
-
--- ---- what a step does to one machine
-
-pub data Moves (pr : Programs) (m : Machine) : Machine → Type 0 where
-  stands : Moves pr m m
-  is-switched : Moves pr m (switched m)
-  is-booted : m .ran ≡ [] → Moves pr m (loaded (pr .first) m)
-  is-loaded : (p q : Digest) (qs : List Digest) → m .ran ≡ q ∷ qs → Moves pr m (loaded p m)
-  is-put : (p : Digest) → Tainted pr m → Moves pr m (put-unloaded p m)
-  is-run : (p : Digest) → Tainted pr m → Moves pr m (loaded-unput p m)
-  is-counted : Moves pr m (counted m)
-  is-passed : Moves pr m (passed-over m)
-  is-closed : (r : Target) (t : Term) (secret : Bool) → Moves pr m (with-thing (thing r t secret m) m)
-
--- the machine at a moves, and the others stand
-one-moves : {pr : Programs} (f : ℕ → Machine) (a : ℕ) (m : Machine) → Moves pr (f a) m → (j : ℕ) → Moves pr (f j) (at a m f j)
-one-moves {pr} f a m h = at-all (λ j n. Moves pr (f j) n) a m f h (λ j _. stands)
-
-pub moves : {pr : Programs} {w v : World} → Step pr w v → (a : ℕ) → Moves pr (w .machines a) (v .machines a)
-moves (switches w a) = one-moves (w .machines) a _ is-switched
-moves (boots w a e) = one-moves (w .machines) a _ (is-booted e)
-moves (loads w a p q qs e) = one-moves (w .machines) a _ (is-loaded p q qs e)
-moves (puts-only w a p t) = one-moves (w .machines) a _ (is-put p t)
-moves (loads-only w a p t) = one-moves (w .machines) a _ (is-run p t)
-moves (signs w a t d) = λ _. stands
-moves (counts w a) = one-moves (w .machines) a _ is-counted
-moves (closes w a r) = one-moves (w .machines) a _ (is-closed r _ _)
-moves (closes-given w a r t d) = one-moves (w .machines) a _ (is-closed r _ _)
-moves (passes-over w a) = one-moves (w .machines) a _ is-passed
-moves (opens w a x o c) = λ _. stands
-moves (opens-told w a x o t) = λ _. stands
-moves (takes-chip w j a) = λ _. stands
-moves (takes-list w j r) = λ _. stands
-moves (asks w j a k) = λ _. stands
-moves (puts-out w j newer older q e) = λ _. stands
-moves (falls w j) = λ _. stands
-moves (accepts w j newer older q r e k h d) = λ _. stands
-
--- ---- counters and things
-
-pub counter-up : {pr : Programs} {m n : Machine} → Moves pr m n → m .counter ≤ n .counter
-counter-up stands = omega arith
-counter-up is-switched = omega arith
-counter-up (is-booted e) = omega arith
-counter-up (is-loaded p q qs e) = omega arith
-counter-up (is-put p t) = omega arith
-counter-up (is-run p t) = omega arith
-counter-up is-counted = omega arith
-counter-up is-passed = omega arith
-counter-up (is-closed r t s) = omega arith
-
-pub closed-more : {pr : Programs} {m n : Machine} → Moves pr m n → OneMore (Next m) (m .closed) (n .closed)
-closed-more stands = inl refl
-closed-more is-switched = inl refl
-closed-more (is-booted e) = inl refl
-closed-more (is-loaded p q qs e) = inl refl
-closed-more (is-put p t) = inl refl
-closed-more (is-run p t) = inl refl
-closed-more is-counted = inl refl
-closed-more is-passed = inl refl
-closed-more (is-closed r t s) = inr (_, refl, record { number-is = refl; counter-is = refl })
-
-pub closed-stays : {pr : Programs} {m n : Machine} {x : Thing} → Moves pr m n → List·Memᴰ x (m .closed) → List·Memᴰ x (n .closed)
-closed-stays h x = keeps (closed-more h) x
 
 -- ---- rows of good programs
 
@@ -131,43 +66,81 @@ tainted-begun pr ran register t (inr b) = b
 tainted-told : {pr : Programs} {ran register : List Digest} {A : Type 0} → Truthful pr ran register → allGood (pr .good) ran ≡ false → allGood (pr .good) register ≡ true → A
 tainted-told {pr} s t e = not-both t (ap (allGood (pr .good)) (s .register-true e) ∙ e)
 
-truthful-moves : {pr : Programs} {m n : Machine} → Moves pr m n → Truthful pr (m .ran) (m .register) → Truthful pr (n .ran) (n .register)
-truthful-moves stands s = s
-truthful-moves {pr} is-switched s = truthful-none pr
-truthful-moves {pr} {m} (is-booted e) s =
-    let none : m .register ≡ [] = s .good-told (ap (allGood (pr .good)) e ∙ good-none (pr .good)) ∙ e in
-    truthful-load pr (pr .first) _ _ (inr (([], ap (λ l. pr .first ∷ l) e), ([], ap (λ l. pr .first ∷ l) none))) s
-truthful-moves {pr} {m} (is-loaded p q qs e) s = truthful-load pr p _ _ (go (s .begun)) s
+-- a program is put in and not loaded, or loaded and not put in, where a bad one was loaded
+truthful-put : (pr : Programs) (p : Digest) (ran register : List Digest) → allGood (pr .good) ran ≡ false → Truthful pr ran register → Truthful pr ran (p ∷ register)
+truthful-put pr p ran register t s =
+    let b = tainted-begun pr ran register t (s .begun) in
+    record { good-told = λ c. not-both t c; register-true = λ c. tainted-told s t (good-rest (pr .good) p register c); begun = inr (b .0, begins-more pr p (b .1)) }
+
+truthful-run : (pr : Programs) (p : Digest) (ran register : List Digest) → allGood (pr .good) ran ≡ false → Truthful pr ran register → Truthful pr (p ∷ ran) register
+truthful-run pr p ran register t s =
+    let b = tainted-begun pr ran register t (s .begun) in
+    record { good-told = λ c. not-both t (good-rest (pr .good) p ran c); register-true = λ c. tainted-told s t c; begun = inr (begins-more pr p (b .0), b .1) }
+
+-- the first program is loaded where nothing ran, and others where something does
+begun-first : (pr : Programs) {ran register : List Digest} → ran ≡ [] → Truthful pr ran register → Begun pr (pr .first ∷ ran) (pr .first ∷ register)
+begun-first pr e s = inr (([], ap (λ l. pr .first ∷ l) e), ([], ap (λ l. pr .first ∷ l) (s .good-told (ap (allGood (pr .good)) e ∙ good-none (pr .good)) ∙ e)))
+
+begun-more : (pr : Programs) (p : Digest) {ran register : List Digest} {q : Digest} {qs : List Digest} → ran ≡ q ∷ qs → Truthful pr ran register → Begun pr (p ∷ ran) (p ∷ register)
+begun-more pr p {ran} {register} {q} {qs} e s = go (s .begun)
   where
-    go : Begun pr (m .ran) (m .register) → Begun pr (p ∷ m .ran) (p ∷ m .register)
+    go : Begun pr ran register → Begun pr (p ∷ ran) (p ∷ register)
     go (inl (none, _)) = let contrary : _≡_ {A = ℕ} 0 1 = cc in absurd (omega arith)
     go (inr (a, b)) = inr (begins-more pr p a, begins-more pr p b)
-truthful-moves {pr} {m} (is-put p t) s =
-    let b : Begins pr (m .ran) × Begins pr (m .register) = tainted-begun pr _ _ t (s .begun) in
-    record { good-told = λ c. not-both t c; register-true = λ c. tainted-told s t (good-rest (pr .good) p _ c); begun = inr (b .0, begins-more pr p (b .1)) }
-truthful-moves {pr} {m} (is-run p t) s =
-    let b : Begins pr (m .ran) × Begins pr (m .register) = tainted-begun pr _ _ t (s .begun) in
-    record { good-told = λ c. not-both t (good-rest (pr .good) p _ c); register-true = λ c. tainted-told s t c; begun = inr (begins-more pr p (b .0), b .1) }
-truthful-moves is-counted s = s
-truthful-moves is-passed s = s
-truthful-moves (is-closed r t b) s = s
 
-orderly-moves : {pr : Programs} {m n : Machine} → Moves pr m n → Orderly (m .counter) (m .number) (m .closed) → Orderly (n .counter) (n .number) (n .closed)
-orderly-moves stands s = s
-orderly-moves is-switched s = s
-orderly-moves (is-booted e) s = s
-orderly-moves (is-loaded p q qs e) s = s
-orderly-moves (is-put p t) s = s
-orderly-moves (is-run p t) s = s
-orderly-moves {pr} {m} is-counted s =
-    record { below = λ x h. let old : x .counter ≤ m .counter = s .below x h in omega arith; falling = s .falling }
-orderly-moves is-passed s = record { below = s .below; falling = falling-up (λ x. x .number) _ _ _ (omega arith) (s .falling) }
-orderly-moves {pr} {m} (is-closed r t b) s = record { below = new; falling = (omega arith, s .falling) }
+-- ---- what a step does to one machine
+
+-- from m to n: the counter does not fall, at most one thing is closed, under the number and the counter of m, and what holds of every machine goes on to hold
+pub record Moves (pr : Programs) (m n : Machine) : Type 0 where
+  pub counter-up : m .counter ≤ n .counter
+  pub closed-more : OneMore (Next m) (m .closed) (n .closed)
+  pub stays-orderly : Orderly (m .counter) (m .number) (m .closed) → Orderly (n .counter) (n .number) (n .closed)
+  pub stays-truthful : Truthful pr (m .ran) (m .register) → Truthful pr (n .ran) (n .register)
+
+-- nothing is closed
+quiet : {pr : Programs} {m n : Machine} → m .counter ≤ n .counter → m .number ≤ n .number → n .closed ≡ m .closed → (Truthful pr (m .ran) (m .register) → Truthful pr (n .ran) (n .register)) → Moves pr m n
+quiet {pr} {m} {n} up on same truth =
+    record { counter-up = up; closed-more = inl same; stays-orderly = λ o. record { below = λ x h. low o x (subst (λ xs. List·Memᴰ x xs) same h); falling = subst (λ xs. Falling (λ x. x .number) (n .number) xs) (sym same) (falling-up (λ x. x .number) _ _ (m .closed) on (o .falling)) }; stays-truthful = truth }
   where
-    new : (x : Thing) → List·Memᴰ x (thing r t b m ∷ m .closed) → x .counter ≤ m .counter
-    new x (List·Memᴰ·head e) = let same : x .counter ≡ m .counter = ap (λ y. y .counter) e in omega arith
-    new x (List·Memᴰ·tail h) = s .below x h
+    low : Orderly (m .counter) (m .number) (m .closed) → (x : Thing) → List·Memᴰ x (m .closed) → x .counter ≤ n .counter
+    low o x h = let old : x .counter ≤ m .counter = o .below x h in omega arith
+
+stands : {pr : Programs} {m : Machine} → Moves pr m m
+stands = quiet (omega arith) (omega arith) refl (λ s. s)
+
+-- x is closed, and nothing else changes but the number
+closing : {pr : Programs} {m n : Machine} (x : Thing) → m .counter ≡ n .counter → m .number < n .number → n .closed ≡ x ∷ m .closed → Next m x → (Truthful pr (m .ran) (m .register) → Truthful pr (n .ran) (n .register)) → Moves pr m n
+closing {pr} {m} {n} x same on more next truth =
+    record { counter-up = omega arith; closed-more = inr (x, more, next); stays-orderly = λ o. record { below = λ y h. low o y (subst (λ xs. List·Memᴰ y xs) more h); falling = subst (λ xs. Falling (λ x. x .number) (n .number) xs) (sym more) (omega (arith, next .number-is), falling-up (λ x. x .number) _ _ (m .closed) (omega (arith, next .number-is)) (o .falling)) }; stays-truthful = truth }
+  where
+    low : Orderly (m .counter) (m .number) (m .closed) → (y : Thing) → List·Memᴰ y (x ∷ m .closed) → y .counter ≤ n .counter
+    low o y (List·Memᴰ·head e) = let is : y .counter ≡ x .counter = ap (λ z. z .counter) e in omega (arith, next .counter-is)
+    low o y (List·Memᴰ·tail h) = let old : y .counter ≤ m .counter = o .below y h in omega arith
+
+-- the machine at a moves, and the others stand
+one-moves : {pr : Programs} (f : ℕ → Machine) (a : ℕ) (m : Machine) → Moves pr (f a) m → (j : ℕ) → Moves pr (f j) (at a m f j)
+one-moves {pr} f a m h = at-all (λ j n. Moves pr (f j) n) a m f h (λ j _. stands)
+
+pub moves : {pr : Programs} {w v : World} → Step pr w v → (a : ℕ) → Moves pr (w .machines a) (v .machines a)
+moves {pr} (switches w a) = one-moves (w .machines) a _ (quiet (omega arith) (omega arith) refl (λ _. truthful-none pr))
+moves {pr} (boots w a e) = one-moves (w .machines) a _ (quiet (omega arith) (omega arith) refl (λ s. truthful-load pr _ _ _ (begun-first pr e s) s))
+moves {pr} (loads w a p q qs e) = one-moves (w .machines) a _ (quiet (omega arith) (omega arith) refl (λ s. truthful-load pr _ _ _ (begun-more pr p e s) s))
+moves {pr} (puts-only w a p t) = one-moves (w .machines) a _ (quiet (omega arith) (omega arith) refl (truthful-put pr p _ _ t))
+moves {pr} (loads-only w a p t) = one-moves (w .machines) a _ (quiet (omega arith) (omega arith) refl (truthful-run pr p _ _ t))
+moves (signs w a t d) = λ _. stands
+moves (counts w a) = one-moves (w .machines) a _ (quiet (omega arith) (omega arith) refl (λ s. s))
+moves (closes w a r) = one-moves (w .machines) a _ (closing _ refl (omega arith) refl (record { number-is = refl; counter-is = refl }) (λ s. s))
+moves (closes-given w a r t d) = one-moves (w .machines) a _ (closing _ refl (omega arith) refl (record { number-is = refl; counter-is = refl }) (λ s. s))
+moves (passes-over w a) = one-moves (w .machines) a _ (quiet (omega arith) (omega arith) refl (λ s. s))
+moves (opens w a x o c) = λ _. stands
+moves (opens-told w a x o t) = λ _. stands
+moves (takes-chip w j a) = λ _. stands
+moves (takes-list w j r) = λ _. stands
+moves (asks w j a k) = λ _. stands
+moves (puts-out w j newer older q e) = λ _. stands
+moves (falls w j) = λ _. stands
+moves (accepts w j newer older q r e k h d) = λ _. stands
 
 pub sound : {pr : Programs} {k : ℕ} {w : World} → Run pr k made w → (a : ℕ) → Sound pr (w .machines a)
 sound {pr} here a = record { rows = truthful-none pr; things = record { below = λ x m. absurd (List·Memᴰ·not-nil m); falling = tt } }
-sound (onward l s) a = record { rows = truthful-moves (moves s a) (sound l a .rows); things = orderly-moves (moves s a) (sound l a .things) }
+sound (onward l s) a = record { rows = moves s a .stays-truthful (sound l a .rows); things = moves s a .stays-orderly (sound l a .things) }

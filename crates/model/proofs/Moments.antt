@@ -9,7 +9,7 @@ use Rattle.model.specs.Effect.{made}
 use Rattle.model.specs.Step.{Step}
 use Rattle.model.specs.Run.{Run, here, onward, Prefix, ends-here, goes-on, Moment}
 use Rattle.model.proofs.Lists.{keeps}
-use Rattle.model.proofs.Machines.{moves, counter-up, closed-stays}
+use Rattle.model.proofs.Machines.{moves}
 use Rattle.model.proofs.History.{history}
 
 -- what every step keeps, every run keeps
@@ -25,10 +25,10 @@ pub asked-along : {pr : Programs} {k : ℕ} {w v : World} (q : Question) → Run
 asked-along q = all-along (λ u. List·Memᴰ q (u .asked)) (λ w v s m. keeps (history s .asked) m)
 
 pub closed-along : {pr : Programs} {k : ℕ} {w v : World} (a : ℕ) (x : Thing) → Run pr k w v → List·Memᴰ x (w .machines a .closed) → List·Memᴰ x (v .machines a .closed)
-closed-along a x = all-along (λ u. List·Memᴰ x (u .machines a .closed)) (λ w v s m. closed-stays (moves s a) m)
+closed-along a x = all-along (λ u. List·Memᴰ x (u .machines a .closed)) (λ w v s m. keeps (moves s a .closed-more) m)
 
 pub counter-along : {pr : Programs} {k : ℕ} {w v : World} (a n : ℕ) → Run pr k w v → n ≤ w .machines a .counter → n ≤ v .machines a .counter
-counter-along a n = all-along (λ u. n ≤ u .machines a .counter) (λ w v s up. let more : w .machines a .counter ≤ v .machines a .counter = counter-up (moves s a) in omega arith)
+counter-along a n = all-along (λ u. n ≤ u .machines a .counter) (λ w v s up. let more : w .machines a .counter ≤ v .machines a .counter = moves s a .counter-up in omega arith)
 
 -- ---- moments
 

@@ -13,7 +13,7 @@ use Rattle.model.specs.Run.{Run, here, onward}
 use Rattle.model.specs.Promise.{Can, OneMore, Fits, Closes, Next, Openings, Counters, Numbers, Registers}
 use Rattle.model.proofs.Lists.{keeps, old-or-new, Apart, apart-middle, falling-apart}
 use Rattle.model.proofs.Places.{at-same}
-use Rattle.model.proofs.Machines.{moves, counter-up, closed-more, sound}
+use Rattle.model.proofs.Machines.{moves, sound}
 use Rattle.model.proofs.History.{history}
 use Rattle.model.proofs.Moments.{all-along, closed-along, counter-along}
 use Rattle.model.proofs.Secrets.{knows}
@@ -21,12 +21,12 @@ use Rattle.model.proofs.Secrets.{knows}
 -- ---- closing and opening
 
 -- chip a gave out x: that is closing it
-abbrev closing : (w v : World) (a : ℕ) (x : Thing) → v .machines a ≡ with-thing x (w .machines a) → x .counter ≡ w .machines a .counter → Closes a (x .target) w v
-closing w v a x e same =
-    record { thing = x; added = ap (λ m. m .closed) e; target-is = refl; counter-is = same; ran-stays = ap (λ m. m .ran) e; register-stays = ap (λ m. m .register) e; counter-stays = ap (λ m. m .counter) e }
+abbrev closing : (w v : World) (a : ℕ) (r : Target) (x : Thing) → v .machines a ≡ with-thing x (w .machines a) → x .target ≡ r → x .counter ≡ w .machines a .counter → Closes a r w v
+closing w v a r x e for same =
+    record { thing = x; added = ap (λ m. m .closed) e; target-is = for; counter-is = same; ran-stays = ap (λ m. m .ran) e; register-stays = ap (λ m. m .register) e; counter-stays = ap (λ m. m .counter) e }
 
 openable : {pr : Programs} {k : ℕ} {w : World} (l : Run pr k made w) (a : ℕ) (x : Thing) → Fits x (w .machines a) → Opens a x w
-openable l a x f = record { given-out = f .there; at-hand = has (knows l .handed-out a x (f .there)); target-fits = f .register-fits; counter-fits = f .counter-fits }
+openable l a x f = record { given-out = f .there; at-hand = knows l .handed-out a x (f .there); target-fits = f .register-fits; counter-fits = f .counter-fits }
 
 opens-it : {pr : Programs} {k : ℕ} {w : World} (l : Run pr k made w) (a : ℕ) (x : Thing) → Fits x (w .machines a) → Can pr w 1 (λ v. (v .opened ≡ opening a x ∷ w .opened) × (v .machines ≡ w .machines) × (allGood (pr .good) (w .machines a .ran) ≡ false → Derives (v .heard) (x .what)))
 opens-it {pr} {w = w} l a x f = go (allGood (pr .good) (w .machines a .ran)) refl
@@ -45,12 +45,12 @@ nowhere-shut l p m = all-along (λ u. List·Memᴰ p (u .opened) → p .thing .t
 pub openings : {pr : Programs} {k : ℕ} {w : World} → Run pr k made w → Openings pr w
 openings {pr} {w = w} l =
     record {
-      closes-secret = λ a r. (_, onward here (closes w a r), (closing w _ a _ (at-same a _ (w .machines)) refl, refl));
-      closes-given = λ a r t d. (_, onward here (closes-given w a r t d), (closing w _ a _ (at-same a _ (w .machines)) refl, refl));
-      closes-only = λ v s a. closed-more (moves s a);
+      closes-secret = λ a r. (_, onward here (closes w a r), (closing w _ a r _ (at-same a _ (w .machines)) refl refl, refl));
+      closes-given = λ a r t d. (_, onward here (closes-given w a r t d), (closing w _ a r _ (at-same a _ (w .machines)) refl refl, refl));
+      closes-only = λ v s a. moves s a .closed-more;
       opens-fitting = opens-it l;
       opens-only = λ v s. history s .opened;
-      never-nowhere = nowhere-shut l
+      never-nowhere = nowhere-shut l;
     }
 
 -- ---- counters and numbers
@@ -73,14 +73,14 @@ counters {w = w} l =
     record {
       counts-up = λ a i v r. counter-along a _ r (omega arith);
       no-return = λ i v r. not-before r;
-      outdates = λ a. (_, onward here (counts w a), ((λ x m. let old : x .counter ≤ w .machines a .counter = sound l a .things .below x m in subst (λ y. x .counter < y .counter) (sym (at-same a (counted (w .machines a)) (w .machines))) (omega arith)), ap (λ y. y .ran) (at-same a _ (w .machines))))
+      outdates = λ a. (_, onward here (counts w a), ((λ x m. let old : x .counter ≤ w .machines a .counter = sound l a .things .below x m in subst (λ y. x .counter < y .counter) (sym (at-same a (counted (w .machines a)) (w .machines))) (omega arith)), ap (λ y. y .ran) (at-same a _ (w .machines))));
     }
 
 pub numbers : {pr : Programs} {k : ℕ} {w : World} → Run pr k made w → Numbers pr w
 numbers {w = w} l =
     record {
       numbered = λ a x newer older e y m same. apart-middle (λ x. x .number) newer older x (subst (λ xs. Apart (λ x. x .number) xs) e (falling-apart (λ x. x .number) _ _ (sound l a .things .falling))) m same;
-      stays = λ a i v r x m. closed-along a x r m
+      stays = λ a i v r x m. closed-along a x r m;
     }
 
 -- ---- registers

@@ -11,7 +11,9 @@ use Rattle.model.specs.Run.{Run}
 use Rattle.model.specs.Promise.{Leaked, Secrecy}
 use Rattle.model.proofs.Machines.{sound}
 use Rattle.model.proofs.Secrets.{Public, Heard, SignedOn, knows, known-safe}
-use Rattle.model.proofs.Knowledge.{Safe}
+use Rattle.model.proofs.Knowledge.{Safe, derives-more}
+use Rattle.model.proofs.History.{history}
+use Rattle.model.proofs.Moments.{all-along}
 
 leaks : {pr : Programs} {k : ℕ} {w : World} (l : Run pr k made w) (a : ℕ) (x : Thing) → List·Memᴰ x (w .machines a .closed) → x .secret ≡ true → Derives (w .heard) (x .what) → Leaked pr l a x
 leaks {pr} l a x m secret d =
@@ -31,4 +33,4 @@ nowhere-unleaked : {pr : Programs} {k : ℕ} {w : World} {l : Run pr k made w} (
 nowhere-unleaked a x e h = let contrary : _≡_ {A = ℕ} 0 1 = cc (e, h .fitted .register-fits) in absurd (omega arith)
 
 pub secrecy : {pr : Programs} {k : ℕ} {w : World} (l : Run pr k made w) → Secrecy pr l
-secrecy l = record { kept = λ a x m s row e good d. good-unleaked a x row e good (leaks l a x m s d); kept-nowhere = λ a x m s e d. nowhere-unleaked a x e (leaks l a x m s d); leaks-only = leaks l }
+secrecy l = record { kept = λ a x m s row e good d. good-unleaked a x row e good (leaks l a x m s d); kept-nowhere = λ a x m s e d. nowhere-unleaked a x e (leaks l a x m s d); handed-out = knows l .handed-out; unforgotten = λ i v r t d. all-along (λ u. Derives (u .heard) t) (λ w v s d. derives-more (history s .heard) d) r d; leaks-only = leaks l }

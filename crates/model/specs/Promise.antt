@@ -5,7 +5,7 @@ use mathlib.Core.Logic.{_⊎_}
 use mathlib.Core.List.{List, [], _∷_, _++_, List·Memᴰ}
 use Prim.Native.Nat.{ℕ, suc, _+_, _≤_, _<_}
 use lib.ListN.{length}
-use Rattle.model.specs.Term.{Term, Digest, Derives}
+use Rattle.model.specs.Term.{Term, Digest, Sealed, Derives}
 use Rattle.model.specs.World.{Programs, Target, For, Nowhere, Thing, Machine, Question, Acceptance, Opening, World, allGood}
 use Rattle.model.specs.Effect.{honest, opening, made}
 use Rattle.model.specs.Step.{Step}
@@ -75,6 +75,9 @@ pub record Secrecy (pr : Programs) {k : ℕ} {w : World} (l : Run pr k made w) :
   -- what was drawn for a thing that was closed for good programs alone, or for nowhere, outsiders do not have; as things stay (`Numbers`), they never will
   pub kept : (a : ℕ) (x : Thing) → List·Memᴰ x (w .machines a .closed) → x .secret ≡ true → (row : List Digest) → x .target ≡ For row → allGood (pr .good) row ≡ true → Derives (w .heard) (x .what) → ⊥
   pub kept-nowhere : (a : ℕ) (x : Thing) → List·Memᴰ x (w .machines a .closed) → x .secret ≡ true → x .target ≡ Nowhere → Derives (w .heard) (x .what) → ⊥
+  -- outsiders have every sealed thing that a chip gave out, and never forget what they could once work out
+  pub handed-out : (a : ℕ) (x : Thing) → List·Memᴰ x (w .machines a .closed) → Derives (w .heard) (Sealed a (x .number))
+  pub unforgotten : (i : ℕ) (v : World) → Run pr i w v → (t : Term) → Derives (w .heard) t → Derives (v .heard) t
   -- whatever it was closed for: outsiders have it only if it once fitted on a machine on which a bad program had been loaded
   pub leaks-only : (a : ℕ) (x : Thing) → List·Memᴰ x (w .machines a .closed) → x .secret ≡ true → Derives (w .heard) (x .what) → Leaked pr l a x
 
