@@ -43,22 +43,22 @@ one-opened p n h e f g o = record { next-up = omega arith; heard = h; asked = in
 
 pub history : {pr : Programs} {w v : World} → Step pr w v → History w v
 history = elim [
-  | switches w a ↦ nothing (omega arith) (λ _ m. m) refl refl refl
-  | boots w a e ↦ nothing (omega arith) (λ _ m. m) refl refl refl
-  | loads w a p q qs e ↦ nothing (omega arith) (λ _ m. m) refl refl refl
-  | puts-only w a p t ↦ nothing (omega arith) (λ _ m. m) refl refl refl
-  | loads-only w a p t ↦ nothing (omega arith) (λ _ m. m) refl refl refl
-  | signs w a t d ↦ nothing (omega arith) (λ _ m. List·Memᴰ·tail m) refl refl refl
-  | counts w a ↦ nothing (omega arith) (λ _ m. m) refl refl refl
-  | closes w a r ↦ nothing (omega arith) (λ _ m. List·Memᴰ·tail m) refl refl refl
-  | closes-given w a r t d ↦ nothing (omega arith) (λ _ m. List·Memᴰ·tail m) refl refl refl
-  | passes-over w a ↦ nothing (omega arith) (λ _ m. m) refl refl refl
-  | opens w a x o c ↦ one-opened _ refl (λ _ m. m) refl refl refl o
-  | opens-told w a x o t ↦ one-opened _ refl (λ _ m. List·Memᴰ·tail m) refl refl refl o
-  | takes-chip w j a ↦ nothing (omega arith) (λ _ m. m) refl refl refl
-  | takes-list w j r ↦ nothing (omega arith) (λ _ m. m) refl refl refl
-  | asks w j a k ↦ record { next-up = omega arith; heard = λ _ m. List·Memᴰ·tail m; asked = inr (_, refl, record { new = omega arith; used = omega arith; chip-known = k }); accepted = inl refl; opened = inl refl }
-  | puts-out w j newer older q e ↦ nothing (omega arith) (λ _ m. m) refl refl refl
-  | falls w j ↦ nothing (omega arith) (λ _ m. m) refl refl refl
-  | accepts w j newer older q r e k h d ↦ record { next-up = omega arith; heard = λ _ m. m; asked = inl refl; accepted = inr (_, refl, record { judge = j; newer = newer; older = older; was-open = e; closed-by-it = ap (λ d. d .questions) (at-same j _ (w .judges)); chip-known = k; row-listed = h; signed = d }); opened = inl refl }
+  | switches w a ↦ nothing (omega arith) (λ t m. search List·Memᴰ·tail) refl refl refl
+  | boots w a e ↦ nothing (omega arith) (λ t m. search List·Memᴰ·tail) refl refl refl
+  | loads w a p q qs e ↦ nothing (omega arith) (λ t m. search List·Memᴰ·tail) refl refl refl
+  | puts-only w a p t ↦ nothing (omega arith) (λ t m. search List·Memᴰ·tail) refl refl refl
+  | loads-only w a p t ↦ nothing (omega arith) (λ t m. search List·Memᴰ·tail) refl refl refl
+  | signs w a t d ↦ nothing (omega arith) (λ t m. search List·Memᴰ·tail) refl refl refl
+  | counts w a ↦ nothing (omega arith) (λ t m. search List·Memᴰ·tail) refl refl refl
+  | closes w a r ↦ nothing (omega arith) (λ t m. search List·Memᴰ·tail) refl refl refl
+  | closes-given w a r t d ↦ nothing (omega arith) (λ t m. search List·Memᴰ·tail) refl refl refl
+  | passes-over w a ↦ nothing (omega arith) (λ t m. search List·Memᴰ·tail) refl refl refl
+  | opens w a x o c ↦ one-opened _ refl (λ t m. search List·Memᴰ·tail) refl refl refl o
+  | opens-told w a x o t ↦ one-opened _ refl (λ t m. search List·Memᴰ·tail) refl refl refl o
+  | takes-chip w j a ↦ nothing (omega arith) (λ t m. search List·Memᴰ·tail) refl refl refl
+  | takes-list w j r ↦ nothing (omega arith) (λ t m. search List·Memᴰ·tail) refl refl refl
+  | asks w j a k ↦ record { next-up = omega arith; heard = λ t m. search List·Memᴰ·tail; asked = inr (_, refl, record { new = omega arith; used = omega arith; chip-known = k }); accepted = inl refl; opened = inl refl }
+  | puts-out w j newer older q e ↦ nothing (omega arith) (λ t m. search List·Memᴰ·tail) refl refl refl
+  | falls w j ↦ nothing (omega arith) (λ t m. search List·Memᴰ·tail) refl refl refl
+  | accepts w j newer older q r e k h d ↦ record { next-up = omega arith; heard = λ t m. search List·Memᴰ·tail; asked = inl refl; accepted = inr (_, refl, record { judge = j; newer = newer; older = older; was-open = e; closed-by-it = ap (λ d. d .questions) (at-same j _ (w .judges)); chip-known = k; row-listed = h; signed = d }); opened = inl refl }
 ]

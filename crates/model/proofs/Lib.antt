@@ -1,5 +1,5 @@
 mod Lists
-mod Places
+pub mod Places
 mod Knowledge
 mod Machines
 mod History
