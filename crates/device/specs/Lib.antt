@@ -1,0 +1,5 @@
+pub mod Commands
+pub mod Refusals
+pub mod Rows
+pub mod Things
+pub mod Worlds

@@ -1,0 +1,48 @@
+//! Rows: the empty one, one more digest, and whether two are the same.
+
+ghost use Prim.Native.Nat.{_≤_};
+ghost use mathlib.Core.Path.{_≡_};
+ghost use mathlib.Core.List.{[]};
+ghost use lib.ListN.{length};
+ghost use Rattle.std.specs.Orderings.{Decides};
+ghost use Rattle.device.specs.Rows.{empty-register, pushed, same-row};
+use crate::digests::Digest;
+use crate::digests::DigestPartialEq;
+use crate::registers::Register;
+
+impl Register {
+    pub fn empty() -> Register
+        ensures { λ r. ⌜ r ≡ empty-register ⌝ }
+    {
+        Register {
+            digests: [Digest { bytes: [0; 32] }; 16],
+            len: 0,
+        }
+    }
+
+    /// One digest more, or nothing where the register is full.
+    pub fn with(self, digest: Digest) -> Option<Register>
+        ensures { λ r. ⌜ r ≡ pushed self digest ⌝ }
+    {
+        if self.len >= 16 {
+            return None;
+        }
+        let mut digests = self.digests;
+        digests[self.len] = digest;
+        Some(Register {
+            digests,
+            len: self.len + 1,
+        })
+    }
+
+    /// Whether the two rows are the same.
+    pub fn same(self, other: Register) -> bool
+        ensures { λ r. ⌜ r ≡ same-row self other ⌝ }
+    {
+        let mine = self.digests;
+        let n = self.len;
+        let theirs = other.digests;
+        let m = other.len;
+        mine[0..n] == theirs[0..m]
+    }
+}
