@@ -8,13 +8,15 @@ use native.Mathlib.Nat.{ℕ-set}
 use native.Mathlib.Bridge.{le-prop}
 use native.Mathlib.Omega.{arith}
 use lib.Dec.{T, ltb, ltb→lt}
-use lib.ListN.{length, take, set}
+use lib.ListN.{length, take, set, getD}
 use Rattle.std.specs.Orderings.{Decides}
 use Rattle.std.specs.shelf.Text.{sameBytes}
 use Rattle.std.specs.declared.option.Option.{Option}
 use Rattle.std.specs.declared.option.Option.the-variants.{Some, None}
 use Rattle.std.proofs.shelf.Equals.{sameBytes-decides}
-use Rattle.std.proofs.shelf.Lists.{take-more-set, reverse-reverse}
+use Rattle.std.proofs.shelf.Lists.{take-more-set, reverse-reverse, length-take-le, length-reverse, length-map, getD-take}
+use Rattle.std.proofs.shelf.Maps.{nth-getD, nth-past}
+use Rattle.std.specs.shelf.Maps.{nth}
 use Rattle.std.proofs.shelf.Ways.{same-from-decides, decides-and, tells}
 use Rattle.device.specs.declared.digests.Digest.{Digest}
 use Rattle.device.specs.declared.registers.Register.{Register}
@@ -38,7 +40,7 @@ same-digests-decides (d ∷ ds) (e ∷ es) = by (same-digests-decides ds es)
         let both = decides-and _ _ (digest-is d e) h in
         ((λ t. λ i. both .0 t .0 i ∷ both .0 t .1 i), λ p. both .1 (cc, cc))
 
-some-is : {A : Type 0} {x y : A} → Some x ≡ Some y → x ≡ y
+pub some-is : {A : Type 0} {x y : A} → Some x ≡ Some y → x ≡ y
 some-is e = cc
 
 pub pushed-is : (r s : Register) (d : Digest) → r .len < 16 → s .digests ≡ set (r .digests) (r .len) d → s .len ≡ r .len + 1 → Some s ≡ pushed r d
@@ -71,3 +73,15 @@ same-bytes-of (x ∷ xs) (y ∷ ys) e = by (same-bytes-of xs ys cc)
 
 pub same-words : (r s : Register) → words r ≡ words s → row r ≡ row s
 same-words r s e = sym (reverse-reverse (row r)) ∙ ap reverse (same-bytes-of (reverse (row r)) (reverse (row s)) e) ∙ reverse-reverse (row s)
+
+pub row-length : (r : Register) → length (row r) ≡ r .len
+row-length r = length-take-le (r .len) (r .digests) (omega (arith, r .long, r .fits))
+
+pub row-at : (r : Register) (i : ℕ) (d : Digest) → i < r .len → Some (getD (r .digests) i d) ≡ nth (row r) i
+row-at r i d below = sym (nth-getD (row r) i d (omega (arith, row-length r)) ∙ ap Some (getD-take (r .len) (r .digests) i d below))
+
+pub row-past : (r : Register) (i : ℕ) → r .len ≤ i → None ≡ nth (row r) i
+row-past r i past = sym (nth-past (row r) i (omega (arith, row-length r)))
+
+pub row-empty : (r : Register) → words r ≡ [] → length (row r) ≡ 0
+row-empty r e = sym (length-reverse (row r)) ∙ sym (length-map (reverse (row r)) (λ d. d .bytes)) ∙ ap length e

@@ -4,8 +4,9 @@ ghost use Prim.Native.Nat.{_≤_};
 ghost use mathlib.Core.Path.{_≡_};
 ghost use mathlib.Core.List.{[]};
 ghost use lib.ListN.{length};
+ghost use Rattle.std.specs.shelf.Maps.{nth};
 ghost use Rattle.std.specs.Orderings.{Decides};
-ghost use Rattle.device.specs.Rows.{empty-register, pushed, same-row};
+ghost use Rattle.device.specs.Rows.{row, empty-register, pushed, same-row};
 use crate::digests::Digest;
 use crate::digests::DigestPartialEq;
 use crate::registers::Register;
@@ -44,5 +45,22 @@ impl Register {
         let theirs = other.digests;
         let m = other.len;
         mine[0..n] == theirs[0..m]
+    }
+
+    pub fn len(self) -> usize
+        ensures { λ r. ⌜ r ≡ length (row self) ⌝ }
+    {
+        self.len
+    }
+
+    /// The digest at this place, the oldest at 0.
+    pub fn digest(self, i: usize) -> Option<Digest>
+        ensures { λ r. ⌜ r ≡ nth (row self) i ⌝ }
+    {
+        if i >= self.len {
+            return None;
+        }
+        let digests = self.digests;
+        Some(digests[i])
     }
 }

@@ -1,0 +1,4 @@
+pub mod Disks
+pub mod Machines
+pub mod Starts
+pub mod Worlds
