@@ -49,10 +49,14 @@ impl Chip {
         ensures exact { λ r. ⌜ r ≡ switched self ⌝ }
         ensures steps { λ r. ⌜ Switches self r ⌝ }
     {
-        Chip {
-            register: Register::empty(),
-            ..self
-        }
+        self.emptied()
+    }
+
+    fn emptied(self) -> Chip
+        ensures { λ r. ⌜ r ≡ switched self ⌝ }
+    {
+        let register = Register::empty();
+        Chip { register, ..self }
     }
 
     pub fn put(self, digest: Digest) -> (Chip, Answer)
