@@ -1,0 +1,63 @@
+-- Loops that look through a list: what is left gives what the whole gives.
+use mathlib.Core.Path.{_≡_, refl, sym, ap, _∙_}
+use mathlib.Core.Bool.{Bool, true, false, cond}
+use mathlib.Core.List.{List, [], _∷_}
+use Prim.Native.Nat.{ℕ, _+_, _≤_, _<_}
+use native.Mathlib.Omega.{arith}
+use lib.ListN.{length, drop, getD}
+use Rattle.std.specs.declared.option.Option.{Option}
+use Rattle.std.specs.declared.option.Option.the-variants.{Some, None}
+use Rattle.std.proofs.shelf.Lists.{at-drop-more, at-drop-all}
+use Rattle.verifier.specs.Searches.{some, seek, place}
+
+some-here : {A : Type 0} (p : A → Bool) (x : A) (xs : List A) → some p (x ∷ xs) ≡ cond (p x) true (some p xs)
+unfolding some
+some-here p x xs = refl
+
+some-nil : {A : Type 0} (p : A → Bool) → some p [] ≡ false
+unfolding some
+some-nil p = refl
+
+-- one that passes, one that does not, and the end of the list
+pub some-hit : {A : Type 0} (p : A → Bool) (xs : List A) (i : ℕ) (d : A) → i < length xs → some p (drop i xs) ≡ some p xs → p (getD xs i d) ≡ true → true ≡ some p xs
+some-hit p xs i d h e t = sym (ap (λ b. cond b true (some p (drop (i + 1) xs))) t) ∙ sym (some-here p (getD xs i d) (drop (i + 1) xs)) ∙ sym (at-drop-more (some p) xs i d h) ∙ e
+
+pub some-miss : {A : Type 0} (p : A → Bool) (xs : List A) (i : ℕ) (d : A) → i < length xs → some p (drop i xs) ≡ some p xs → p (getD xs i d) ≡ false → some p (drop (i + 1) xs) ≡ some p xs
+some-miss p xs i d h e t = sym (ap (λ b. cond b true (some p (drop (i + 1) xs))) t) ∙ sym (some-here p (getD xs i d) (drop (i + 1) xs)) ∙ sym (at-drop-more (some p) xs i d h) ∙ e
+
+pub some-end : {A : Type 0} (p : A → Bool) (xs : List A) (i : ℕ) → length xs ≤ i → some p (drop i xs) ≡ some p xs → false ≡ some p xs
+some-end p xs i h e = sym (some-nil p) ∙ sym (at-drop-all (some p) xs i h) ∙ e
+
+seek-here : {A : Type 0} (p : A → Bool) (x : A) (xs : List A) → seek p (x ∷ xs) ≡ cond (p x) (Some x) (seek p xs)
+unfolding seek
+seek-here p x xs = refl
+
+seek-nil : {A : Type 0} (p : A → Bool) → seek p [] ≡ None
+unfolding seek
+seek-nil p = refl
+
+pub seek-hit : {A : Type 0} (p : A → Bool) (xs : List A) (i : ℕ) (d : A) → i < length xs → seek p (drop i xs) ≡ seek p xs → p (getD xs i d) ≡ true → Some (getD xs i d) ≡ seek p xs
+seek-hit p xs i d h e t = sym (ap (λ b. cond b (Some (getD xs i d)) (seek p (drop (i + 1) xs))) t) ∙ sym (seek-here p (getD xs i d) (drop (i + 1) xs)) ∙ sym (at-drop-more (seek p) xs i d h) ∙ e
+
+pub seek-miss : {A : Type 0} (p : A → Bool) (xs : List A) (i : ℕ) (d : A) → i < length xs → seek p (drop i xs) ≡ seek p xs → p (getD xs i d) ≡ false → seek p (drop (i + 1) xs) ≡ seek p xs
+seek-miss p xs i d h e t = sym (ap (λ b. cond b (Some (getD xs i d)) (seek p (drop (i + 1) xs))) t) ∙ sym (seek-here p (getD xs i d) (drop (i + 1) xs)) ∙ sym (at-drop-more (seek p) xs i d h) ∙ e
+
+pub seek-end : {A : Type 0} (p : A → Bool) (xs : List A) (i : ℕ) → length xs ≤ i → seek p (drop i xs) ≡ seek p xs → None ≡ seek p xs
+seek-end p xs i h e = sym (seek-nil p) ∙ sym (at-drop-all (seek p) xs i h) ∙ e
+
+place-here : {A : Type 0} (p : A → Bool) (k : ℕ) (x : A) (xs : List A) → place p k (x ∷ xs) ≡ cond (p x) (Some k) (place p (k + 1) xs)
+unfolding place
+place-here p k x xs = refl
+
+place-nil : {A : Type 0} (p : A → Bool) (k : ℕ) → place p k [] ≡ None
+unfolding place
+place-nil p k = refl
+
+pub place-hit : {A : Type 0} (p : A → Bool) (xs : List A) (i : ℕ) (d : A) → i < length xs → place p i (drop i xs) ≡ place p 0 xs → p (getD xs i d) ≡ true → Some i ≡ place p 0 xs
+place-hit p xs i d h e t = sym (ap (λ b. cond b (Some i) (place p (i + 1) (drop (i + 1) xs))) t) ∙ sym (place-here p i (getD xs i d) (drop (i + 1) xs)) ∙ sym (at-drop-more (place p i) xs i d h) ∙ e
+
+pub place-miss : {A : Type 0} (p : A → Bool) (xs : List A) (i : ℕ) (d : A) → i < length xs → place p i (drop i xs) ≡ place p 0 xs → p (getD xs i d) ≡ false → place p (i + 1) (drop (i + 1) xs) ≡ place p 0 xs
+place-miss p xs i d h e t = sym (ap (λ b. cond b (Some i) (place p (i + 1) (drop (i + 1) xs))) t) ∙ sym (place-here p i (getD xs i d) (drop (i + 1) xs)) ∙ sym (at-drop-more (place p i) xs i d h) ∙ e
+
+pub place-end : {A : Type 0} (p : A → Bool) (xs : List A) (i : ℕ) → length xs ≤ i → place p i (drop i xs) ≡ place p 0 xs → None ≡ place p 0 xs
+place-end p xs i h e = sym (place-nil p i) ∙ sym (at-drop-all (place p i) xs i h) ∙ e
