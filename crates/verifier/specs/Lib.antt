@@ -1,1 +1,3 @@
+pub mod Ages
+pub mod Rows
 pub mod Searches

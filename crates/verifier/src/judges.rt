@@ -1,5 +1,7 @@
 //! The judge, the words that it is told, and what it says.
 
+mod ages;
+mod rows;
 mod searches;
 
 use device::chips::Signature;
