@@ -3,6 +3,7 @@
 mod ages;
 mod rows;
 mod searches;
+pub mod words;
 
 use device::chips::Signature;
 use device::digests::Data;

@@ -20,7 +20,7 @@ pub fn has_chip(chips: &[u32], chip: u32) -> bool
     false
 }
 
-fn same(a: Digest, b: Digest) -> bool
+pub fn same(a: Digest, b: Digest) -> bool
     ensures { λ r. ⌜ r ≡ is-digest a b ⌝ }
 {
     a.bytes == b.bytes
