@@ -1,8 +1,8 @@
 -- Loops that look through a list: what is left gives what the whole gives.
-use mathlib.Core.Path.{_≡_, refl, sym, ap, _∙_}
+use mathlib.Core.Path.{_≡_, refl, sym, ap, subst, _∙_}
 use mathlib.Core.Bool.{Bool, true, false, cond}
 use mathlib.Core.List.{List, [], _∷_}
-use Prim.Native.Nat.{ℕ, _+_, _≤_, _<_}
+use Prim.Native.Nat.{ℕ, suc, _+_, _-_, _≤_, _<_}
 use native.Mathlib.Omega.{arith}
 use lib.ListN.{length, drop, getD}
 use Rattle.std.specs.declared.option.Option.{Option}
@@ -61,3 +61,29 @@ place-miss p xs i d h e t = sym (ap (λ b. cond b (Some i) (place p (i + 1) (dro
 
 pub place-end : {A : Type 0} (p : A → Bool) (xs : List A) (i : ℕ) → length xs ≤ i → place p i (drop i xs) ≡ place p 0 xs → None ≡ place p 0 xs
 place-end p xs i h e = sym (place-nil p i) ∙ sym (at-drop-all (place p i) xs i h) ∙ e
+
+-- the place that is found is within the list, and what stands there passes
+place-from : {A : Type 0} (p : A → Bool) (xs : List A) (n k : ℕ) (d : A) → place p n xs ≡ Some k → (n ≤ k) × (k - n < length xs) × (p (getD xs (k - n) d) ≡ true)
+place-from p [] n k d e = let z : None ≡ Some k = sym (place-nil p n) ∙ e in absurd (grind arith)
+place-from {A} p (x ∷ xs) n k d e = by (p x) refl (λ h. place-from p xs (n + 1) k d h)
+  where
+    by : (b : Bool) → p x ≡ b → (place p (n + 1) xs ≡ Some k → (n + 1 ≤ k) × (k - (n + 1) < length xs) × (p (getD xs (k - (n + 1)) d) ≡ true)) → (n ≤ k) × (k - n < length (x ∷ xs)) × (p (getD (x ∷ xs) (k - n) d) ≡ true)
+    by true t rest =
+        let hit : Some n ≡ Some k = sym (ap (λ b. cond b (Some n) (place p (n + 1) xs)) t) ∙ sym (place-here p n x xs) ∙ e in
+        let is : n ≡ k = cc in
+        let none : k - n ≡ 0 = omega arith in
+        (omega arith, subst (λ m. m < length (x ∷ xs)) (sym none) (omega arith), subst (λ m. p (getD (x ∷ xs) m d) ≡ true) (sym none) t)
+    by false t rest =
+        let on : place p (n + 1) xs ≡ Some k = sym (ap (λ b. cond b (Some n) (place p (n + 1) xs)) t) ∙ sym (place-here p n x xs) ∙ e in
+        let (low, high, passes) = rest on in
+        let next : k - n ≡ suc (k - (n + 1)) = omega arith in
+        (omega arith, subst (λ m. m < length (x ∷ xs)) (sym next) (omega arith), subst (λ m. p (getD (x ∷ xs) m d) ≡ true) (sym next) passes)
+
+pub place-below : {A : Type 0} (p : A → Bool) (x : A) (xs : List A) (k : ℕ) → place p 0 xs ≡ Some k → k < length xs
+place-below p x xs k e = let (low, high, passes) = place-from p xs 0 k x e in omega arith
+
+pub place-passes : {A : Type 0} (p : A → Bool) (xs : List A) (k : ℕ) (d : A) → place p 0 xs ≡ Some k → p (getD xs k d) ≡ true
+place-passes p xs k d e =
+    let (low, high, passes) = place-from p xs 0 k d e in
+    let is : k - 0 ≡ k = omega arith in
+    subst (λ m. p (getD xs m d) ≡ true) is passes

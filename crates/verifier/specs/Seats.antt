@@ -22,6 +22,7 @@ use Rattle.verifier.specs.declared.judges.Question.{Question}
 use Rattle.verifier.specs.declared.judges.Reply.{Reply}
 use Rattle.verifier.specs.declared.judges.Word.{Word}
 use Rattle.verifier.specs.declared.judges.Word.the-variants as word
+use Rattle.verifier.specs.declared.judges.Word.the-variants.{Ask, Good, Chip, Ticks, Answer}
 use Rattle.verifier.specs.declared.judges.Said.{Said}
 use Rattle.verifier.specs.declared.judges.Said.the-variants.{Done, Asks, Accepted, Refused, NoMemory}
 use Rattle.verifier.specs.Ages.{aged}
@@ -132,19 +133,20 @@ answer-of s p = cond (some (eqb (p .chip)) (s .chips)) (answer-at s p (place (as
 
 -- ---- the two entrances
 
-abbrev pub office-of : Bool → Seat → Word → Option Data → Seat × Said
-office-of m s (word.Ask a) draw = ask-of m s a draw
-office-of m s (word.List n ds) draw = list-of m s n (ds .now)
-office-of m s (word.Good ds) draw = good-of m s (ds .now)
-office-of m s (word.Chip a) draw = chip-of m s a
-office-of m s (word.Ticks n) draw = ticks-of s n
-office-of m s (word.Answer p) draw = answer-of s p
+-- ds: the digests that come beside the word
+abbrev pub office-of : Bool → Seat → Word → List Digest → Option Data → Seat × Said
+office-of m s (Ask a) ds draw = ask-of m s a draw
+office-of m s (word.List n) ds draw = list-of m s n ds
+office-of m s Good ds draw = good-of m s ds
+office-of m s (Chip a) ds draw = chip-of m s a
+office-of m s (Ticks n) ds draw = ticks-of s n
+office-of m s (Answer p) ds draw = answer-of s p
 
 -- from the net only answers are taken
 abbrev pub net-of : Seat → Word → Seat × Said
-net-of s (word.Ask a) = refused s Malformed
-net-of s (word.List n ds) = refused s Malformed
-net-of s (word.Good ds) = refused s Malformed
-net-of s (word.Chip a) = refused s Malformed
-net-of s (word.Ticks n) = refused s Malformed
-net-of s (word.Answer p) = answer-of s p
+net-of s (Ask a) = refused s Malformed
+net-of s (word.List n) = refused s Malformed
+net-of s Good = refused s Malformed
+net-of s (Chip a) = refused s Malformed
+net-of s (Ticks n) = refused s Malformed
+net-of s (Answer p) = answer-of s p

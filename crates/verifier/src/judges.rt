@@ -46,11 +46,14 @@ pub struct Reply {
     pub signature: Signature,
 }
 
+/// What a judge is told; the digests of a list come beside the word.
 #[derive(Clone, Copy)]
-pub enum Word<'a> {
+pub enum Word {
     Ask(u32),
-    List(u16, &'a [Digest]),
-    Good(&'a [Digest]),
+    /// A list of this number.
+    List(u16),
+    /// The office's list of good programs.
+    Good,
     Chip(u32),
     Ticks(u32),
     Answer(Reply),

@@ -51,6 +51,48 @@ impl Judge {
 }
 
 impl Judge {
+    /// What comes by the office's line; the digests are those of a list, and `draw` is what was drawn for a question.
+    pub fn office(&mut self, heap: Global, word: Word, digests: &[Digest], draw: Option<Data>) -> Said
+        ensures exact { λ r. ⌜ (seat (now (self .exit)), r) ≡ office-of (found r) (seat (now (self .entry))) word (now (digests .entry)) draw ⌝ }
+    {
+        self.hear(heap, word, digests, draw)
+    }
+
+    /// What comes by the net: only answers are taken.
+    pub fn net(&mut self, word: Word) -> Said
+        ensures exact { λ r. ⌜ (seat (now (self .exit)), r) ≡ net-of (seat (now (self .entry))) word ⌝ }
+    {
+        match word {
+            Word::Answer(reply) => self.answer(reply),
+            _ => Said::Refused(Refusal::Malformed),
+        }
+    }
+
+    /// The judge loses all that it was given, and its questions.
+    pub fn fall(&mut self)
+        ensures exact { λ _. ⌜ seat (now (self .exit)) ≡ new-seat (seat (now (self .entry)) .first) ⌝ }
+    {
+        self.chips.clear();
+        self.lists.clear();
+        self.good = None;
+        self.questions.clear();
+    }
+
+    fn hear(&mut self, heap: Global, word: Word, digests: &[Digest], draw: Option<Data>) -> Said
+        ensures { λ r. ⌜ (seat (now (self .exit)), r) ≡ office-of (found r) (seat (now (self .entry))) word (now (digests .entry)) draw ⌝ }
+    {
+        match word {
+            Word::Ask(chip) => self.ask(chip, draw),
+            Word::List(number) => self.list(number, digests),
+            Word::Good => self.take_good(heap, digests),
+            Word::Chip(chip) => self.chip(chip),
+            Word::Ticks(ticks) => self.ticks(ticks),
+            Word::Answer(reply) => self.answer(reply),
+        }
+    }
+}
+
+impl Judge {
     fn chip(&mut self, chip: u32) -> Said
         ensures { λ r. ⌜ (seat (now (self .exit)), r) ≡ chip-of (found r) (seat (now (self .entry))) chip ⌝ }
     {
@@ -66,10 +108,121 @@ impl Judge {
         }
     }
 
+    fn list(&mut self, number: u16, digests: &[Digest]) -> Said
+        ensures { λ r. ⌜ (seat (now (self .exit)), r) ≡ list-of (found r) (seat (now (self .entry))) number (now (digests .entry)) ⌝ }
+    {
+        if !begins(self.first, digests) {
+            return Said::Refused(Refusal::BadList);
+        }
+        if self.lists.len() >= 256 {
+            return Said::Refused(Refusal::BadList);
+        }
+        if find_list(self.lists.as_slice(), number).is_some() {
+            return Said::Refused(Refusal::BadList);
+        }
+        let Some(row) = gather(digests) else {
+            return Said::Refused(Refusal::BadList);
+        };
+        match self.lists.insert(0, List { number, row }) {
+            Ok(()) => Said::Done,
+            Err(_) => Said::NoMemory,
+        }
+    }
+
+    fn take_good(&mut self, heap: Global, digests: &[Digest]) -> Said
+        ensures { λ r. ⌜ (seat (now (self .exit)), r) ≡ good-of (found r) (seat (now (self .entry))) (now (digests .entry)) ⌝ }
+    {
+        if digests.len() > 1024 {
+            return Said::Refused(Refusal::BadList);
+        }
+        if self.good.is_some() {
+            return Said::Refused(Refusal::BadList);
+        }
+        match Vec::from_slice(heap, digests) {
+            Ok(good) => {
+                self.good = Some(good);
+                Said::Done
+            }
+            Err(_) => Said::NoMemory,
+        }
+    }
+
     fn ticks(&mut self, ticks: u32) -> Said
         ensures { λ r. ⌜ (seat (now (self .exit)), r) ≡ ticks-of (seat (now (self .entry))) ticks ⌝ }
     {
         age(&mut self.questions, ticks);
         Said::Done
     }
+
+    fn ask(&mut self, chip: u32, draw: Option<Data>) -> Said
+        ensures { λ r. ⌜ (seat (now (self .exit)), r) ≡ ask-of (found r) (seat (now (self .entry))) chip draw ⌝ }
+    {
+        if !has_chip(self.chips.as_slice(), chip) {
+            return Said::Refused(Refusal::UnknownChip);
+        }
+        let Some(data) = draw else {
+            return Said::Refused(Refusal::NoDraws);
+        };
+        let question = Question {
+            chip,
+            data,
+            left: 60,
+        };
+        match self.questions.insert(0, question) {
+            Ok(()) => {
+                self.questions.truncate(64);
+                Said::Asks(chip, data)
+            }
+            Err(_) => Said::NoMemory,
+        }
+    }
+
+    fn answer(&mut self, reply: Reply) -> Said
+        ensures { λ r. ⌜ (seat (now (self .exit)), r) ≡ answer-of (seat (now (self .entry))) reply ⌝ }
+    {
+        if !has_chip(self.chips.as_slice(), reply.chip) {
+            return Said::Refused(Refusal::UnknownChip);
+        }
+        let Some(i) = find_question(self.questions.as_slice(), reply.chip, reply.data) else {
+            return Said::Refused(Refusal::NoQuestion);
+        };
+        let Some(list) = find_list(self.lists.as_slice(), reply.list) else {
+            return Said::Refused(Refusal::BadList);
+        };
+        if !reply.signs(list.row) {
+            return Said::Refused(Refusal::BadSignature);
+        }
+        self.questions.remove(i);
+        Said::Accepted(list.number, list.row, self.flags(list.row))
+    }
+
+    fn flags(&self, row: Register) -> Flags
+        ensures { λ r. ⌜ r ≡ flags (listed (seat (now (self .entry)) .good)) row ⌝ }
+    {
+        match &self.good {
+            Some(good) => flag(good.as_slice(), row),
+            None => flag(&[], row),
+        }
+    }
+}
+
+impl Reply {
+    /// Whether just this chip, this data and this row were signed.
+    fn signs(self, row: Register) -> bool
+        ensures { λ r. ⌜ r ≡ signs self row ⌝ }
+    {
+        self.signature.chip == self.chip
+            && self.signature.data.same(self.data)
+            && self.signature.register.same(row)
+    }
+}
+
+/// Whether the first digest of these is this one.
+fn begins(first: Digest, digests: &[Digest]) -> bool
+    ensures { λ r. ⌜ r ≡ begins first (now (digests .entry)) ⌝ }
+{
+    if digests.is_empty() {
+        return false;
+    }
+    same(first, digests[0])
 }
