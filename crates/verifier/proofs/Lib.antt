@@ -1,4 +1,6 @@
 pub mod Ages
+pub mod Kept
 pub mod Rows
 pub mod Searches
 pub mod Tests
+pub mod Worlds
