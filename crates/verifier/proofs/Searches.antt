@@ -1,9 +1,10 @@
 -- Loops that look through a list: what is left gives what the whole gives.
 use mathlib.Core.Path.{_≡_, refl, sym, ap, subst, _∙_}
 use mathlib.Core.Bool.{Bool, true, false, cond}
-use mathlib.Core.List.{List, [], _∷_}
+use mathlib.Core.List.{List, [], _∷_, List·Memᴰ, List·Memᴰ·head, List·Memᴰ·tail}
 use Prim.Native.Nat.{ℕ, suc, _+_, _-_, _≤_, _<_}
 use native.Mathlib.Omega.{arith}
+use lib.Dec.{T, eqb, eqb→eq}
 use lib.ListN.{length, drop, getD}
 use Rattle.std.specs.declared.option.Option.{Option}
 use Rattle.std.specs.declared.option.Option.the-variants.{Some, None}
@@ -87,3 +88,26 @@ place-passes p xs k d e =
     let (low, high, passes) = place-from p xs 0 k d e in
     let is : k - 0 ≡ k = omega arith in
     subst (λ m. p (getD xs m d) ≡ true) is passes
+
+-- ---- what is found is in the list
+
+pub some-member : (a : ℕ) (xs : List ℕ) → some (eqb a) xs ≡ true → List·Memᴰ a xs
+some-member a [] e = let z : false ≡ true = sym (some-nil (eqb a)) ∙ e in absurd (grind arith)
+some-member a (x ∷ xs) e = by (eqb a x) refl (λ h. some-member a xs h)
+  where
+    by : (b : Bool) → eqb a x ≡ b → (some (eqb a) xs ≡ true → List·Memᴰ a xs) → List·Memᴰ a (x ∷ xs)
+    by true t rest = List·Memᴰ·head (eqb→eq a x (subst (λ b. T b) (sym t) tt))
+    by false t rest = List·Memᴰ·tail (rest (sym (ap (λ b. cond b true (some (eqb a) xs)) t) ∙ sym (some-here (eqb a) x xs) ∙ e))
+
+pub seek-member : {A : Type 0} (p : A → Bool) (xs : List A) (y : A) → seek p xs ≡ Some y → List·Memᴰ y xs × (p y ≡ true)
+seek-member p [] y e = let z : None ≡ Some y = sym (seek-nil p) ∙ e in absurd (grind arith)
+seek-member {A} p (x ∷ xs) y e = by (p x) refl (λ h. seek-member p xs y h)
+  where
+    by : (b : Bool) → p x ≡ b → (seek p xs ≡ Some y → List·Memᴰ y xs × (p y ≡ true)) → List·Memᴰ y (x ∷ xs) × (p y ≡ true)
+    by true t rest =
+        let hit : Some x ≡ Some y = sym (ap (λ b. cond b (Some x) (seek p xs)) t) ∙ sym (seek-here p x xs) ∙ e in
+        let is : x ≡ y = cc in
+        (List·Memᴰ·head (sym is), ap p (sym is) ∙ t)
+    by false t rest =
+        let (member, passes) = rest (sym (ap (λ b. cond b (Some x) (seek p xs)) t) ∙ sym (seek-here p x xs) ∙ e) in
+        (List·Memᴰ·tail member, passes)

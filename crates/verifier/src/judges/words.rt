@@ -3,6 +3,7 @@
 ghost use mathlib.Core.Path.{_≡_};
 ghost use Rattle.std.specs.Of.Vec.{vec-items};
 ghost use Rattle.verifier.specs.Rows.{flags};
+ghost use Rattle.verifier.specs.Worlds.{Office-steps, Net-steps, Refuses, Lacks, Falls};
 ghost use Rattle.verifier.specs.Seats.{seat, new-seat, listed, on-list, begins, signs, found, chip-of, list-of, good-of, ticks-of, ask-of, answer-of, office-of, net-of};
 use crate::judges::Flags;
 use crate::judges::Judge;
@@ -52,8 +53,17 @@ impl Judge {
 
 impl Judge {
     /// What comes by the office's line; the digests are those of a list, and `draw` is what was drawn for a question.
-    pub fn office(&mut self, heap: Global, word: Word, digests: &[Digest], draw: Option<Data>) -> Said
+    pub fn office(
+        &mut self,
+        heap: Global,
+        word: Word,
+        digests: &[Digest],
+        draw: Option<Data>,
+    ) -> Said
         ensures exact { λ r. ⌜ (seat (now (self .exit)), r) ≡ office-of (found r) (seat (now (self .entry))) word (now (digests .entry)) draw ⌝ }
+        ensures steps { λ r. ⌜ Office-steps (seat (now (self .entry))) word (now (digests .entry)) draw (seat (now (self .exit)), r) ⌝ }
+        ensures refuses { λ r. ⌜ Refuses (seat (now (self .entry))) (seat (now (self .exit)), r) ⌝ }
+        ensures lacks { λ r. ⌜ Lacks (seat (now (self .entry))) (seat (now (self .exit)), r) ⌝ }
     {
         self.hear(heap, word, digests, draw)
     }
@@ -61,16 +71,22 @@ impl Judge {
     /// What comes by the net: only answers are taken.
     pub fn net(&mut self, word: Word) -> Said
         ensures exact { λ r. ⌜ (seat (now (self .exit)), r) ≡ net-of (seat (now (self .entry))) word ⌝ }
+        ensures steps { λ r. ⌜ Net-steps (seat (now (self .entry))) word (seat (now (self .exit)), r) ⌝ }
+        ensures refuses { λ r. ⌜ Refuses (seat (now (self .entry))) (seat (now (self .exit)), r) ⌝ }
     {
-        match word {
-            Word::Answer(reply) => self.answer(reply),
-            _ => Said::Refused(Refusal::Malformed),
-        }
+        self.overhear(word)
     }
 
     /// The judge loses all that it was given, and its questions.
     pub fn fall(&mut self)
         ensures exact { λ _. ⌜ seat (now (self .exit)) ≡ new-seat (seat (now (self .entry)) .first) ⌝ }
+        ensures steps { λ _. ⌜ Falls (seat (now (self .entry))) (seat (now (self .exit))) ⌝ }
+    {
+        self.forget();
+    }
+
+    fn forget(&mut self)
+        ensures { λ _. ⌜ seat (now (self .exit)) ≡ new-seat (seat (now (self .entry)) .first) ⌝ }
     {
         self.chips.clear();
         self.lists.clear();
@@ -88,6 +104,15 @@ impl Judge {
             Word::Chip(chip) => self.chip(chip),
             Word::Ticks(ticks) => self.ticks(ticks),
             Word::Answer(reply) => self.answer(reply),
+        }
+    }
+
+    fn overhear(&mut self, word: Word) -> Said
+        ensures { λ r. ⌜ (seat (now (self .exit)), r) ≡ net-of (seat (now (self .entry))) word ⌝ }
+    {
+        match word {
+            Word::Answer(reply) => self.answer(reply),
+            _ => Said::Refused(Refusal::Malformed),
         }
     }
 }
