@@ -6,8 +6,7 @@ use Prim.Native.Nat.{ℕ, zero, suc, _-_}
 use native.Mathlib.Omega.{arith}
 use lib.Dec.{eqb, ltb}
 use lib.ListN.{length, take}
-use Rattle.std.proofs.shelf.Lists.{append-nil}
-use Rattle.model.specs.World.{Programs, World, Judge, Question}
+use Rattle.model.specs.World.{Programs, World, Question}
 use Rattle.model.specs.Effect.{at, with-questions, on-judge}
 use Rattle.model.specs.Step as step
 use Rattle.model.specs.Run as run

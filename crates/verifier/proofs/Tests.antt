@@ -1,5 +1,5 @@
 -- The tests decide what they say.
-use mathlib.Core.Path.{_≡_, ap}
+use mathlib.Core.Path.{_≡_}
 use Rattle.std.specs.Orderings.{Decides}
 use Rattle.std.proofs.shelf.Equals.{sameBytes-decides}
 use Rattle.device.specs.declared.digests.Digest.{Digest}

@@ -1,7 +1,7 @@
 -- Each word is the steps that it says, of every world for which the judge stands.
 use mathlib.Core.Path.{_≡_, refl, sym, ap, subst, _∙_}
 use mathlib.Core.Bool.{Bool, true, false, cond, _&&_}
-use mathlib.Core.List.{List, [], _∷_, _++_, map, reverse, reverse-cons, List·Memᴰ, List·Memᴰ·head, List·Memᴰ·tail, Memᴰ·map}
+use mathlib.Core.List.{List, [], _∷_, _++_, map, reverse, reverse-cons, List·Memᴰ, Memᴰ·map}
 use Prim.Native.Nat.{ℕ, suc, _-_, _<_}
 use native.Mathlib.Omega.{arith}
 use lib.Dec.{T, eqb, eqb→eq, ltb}
@@ -28,26 +28,25 @@ use Rattle.model.proofs.Places.{at-same}
 use Rattle.device.specs.declared.digests.Data.{Data}
 use Rattle.device.specs.declared.digests.Digest.{Digest}
 use Rattle.device.specs.declared.refusals.Refusal.{Refusal}
-use Rattle.device.specs.declared.refusals.Refusal.the-variants.{Malformed, UnknownChip, NoQuestion, BadList, BadSignature, NoDraws}
+use Rattle.device.specs.declared.refusals.Refusal.the-variants.{UnknownChip, NoQuestion, BadList, BadSignature, NoDraws}
 use Rattle.device.specs.declared.registers.Register.{Register}
-use Rattle.device.specs.Rows.{words, row, same-row, empty-register}
+use Rattle.device.specs.Rows.{words, row, empty-register}
 use Rattle.device.specs.Things.{same-data}
 use Rattle.device.proofs.Rows.{same-digests-decides}
 use Rattle.device.proofs.Things.{same-data-decides}
-use Rattle.verifier.specs.Rows.{filled, gathered, flags}
-use Rattle.verifier.specs.Searches.{some, seek, place, has-number, asks, is-digest}
+use Rattle.verifier.specs.Rows.{gathered, flags}
+use Rattle.verifier.specs.Searches.{some, seek, place, has-number, asks}
 use Rattle.verifier.specs.Seats.{Seat, with-chips, with-lists, with-good, with-questions, new-seat, new-question, listed, refused, kept, begins, chip-of, list-by, list-of, good-of, ticks-of, ask-by, ask-of, signs, answer-by, answer-at, answer-of, office-of, net-of}
-use Rattle.verifier.specs.Worlds.{question-of, questions-of, Stands, latest, Takes-chip, Takes-list, Stays, Puts-out, asked, Asking, Accepts, Falls, Office-steps, Net-steps, Refuses, Lacks}
+use Rattle.verifier.specs.Worlds.{Begins, question-of, questions-of, Stands, latest, Takes-chip, Takes-list, Stays, Puts-out, asked, Asking, Accepts, Falls, Office-steps, Net-steps}
 use Rattle.verifier.specs.declared.judges.List as list
 use Rattle.verifier.specs.declared.judges.Question.{Question}
-use Rattle.verifier.specs.declared.judges.Flags.{Flags}
 use Rattle.verifier.specs.declared.judges.Reply.{Reply}
 use Rattle.verifier.specs.declared.judges.Word.{Word}
 use Rattle.verifier.specs.declared.judges.Word.the-variants as word
 use Rattle.verifier.specs.declared.judges.Word.the-variants.{Ask, Good, Chip, Ticks, Answer}
 use Rattle.verifier.specs.declared.judges.Said.{Said}
-use Rattle.verifier.specs.declared.judges.Said.the-variants.{Done, Asks, Accepted, Refused, NoMemory}
-use Rattle.verifier.proofs.Kept.{Kept, puts-out, kept-aged, kept-first}
+use Rattle.verifier.specs.declared.judges.Said.the-variants.{Done, Asks, Accepted}
+use Rattle.verifier.proofs.Kept.{puts-out, kept-aged, kept-first}
 use Rattle.verifier.proofs.Searches.{some-member, seek-member, place-below, place-passes}
 use Rattle.verifier.proofs.Tests.{is-digest-decides}
 use Rattle.verifier.proofs.Rows.{filled-words}
@@ -55,6 +54,9 @@ use Rattle.verifier.proofs.Rows.{filled-words}
 -- a judge that was changed: the seat stands for it
 pub stands : (drawn : List ℕ → ℕ) (s : Seat) (v : World) (j : ℕ) (d : world.Judge) → v .judges j ≡ d → s .chips ≡ d .chips → map (λ l. words (l .row)) (s .lists) ≡ d .lists → questions-of drawn j (s .questions) ≡ d .questions → Stands drawn s v j
 stands drawn s v j d e c l q = record { chips-are = c ∙ sym (ap (λ x. x .chips) e); lists-are = l ∙ sym (ap (λ x. x .lists) e); questions-are = q ∙ sym (ap (λ x. x .questions) e) }
+
+pub begins-new : (d : Digest) (s : Seat) → s ≡ new-seat d → Begins s
+begins-new d s e = subst (λ t. Begins t) (sym e) (λ drawn w j is. stands drawn (new-seat d) w j effect.new-judge is refl refl refl)
 
 falls-at : (s : Seat) → Falls s (new-seat (s .first))
 falls-at s = record { falls = λ pr drawn w j h. (step.falls w j, stands drawn (new-seat (s .first)) _ j effect.new-judge (at-same j _ (w .judges)) refl refl refl) }

@@ -44,6 +44,10 @@ pub record Stands (drawn : List ℕ → ℕ) (s : Seat) (w : World) (j : ℕ) : 
   pub lists-are : map (λ l. words (l .row)) (s .lists) ≡ w .judges j .lists
   pub questions-are : questions-of drawn j (s .questions) ≡ w .judges j .questions
 
+-- a new judge stands for a new judge
+abbrev pub Begins : Seat → Type 0
+Begins s = (drawn : List ℕ → ℕ) (w : World) (j : ℕ) → w .judges j ≡ effect.new-judge → Stands drawn s w j
+
 -- a step from w to v, after which the judge stands
 abbrev pub Moves : Programs → (List ℕ → ℕ) → World → ℕ → Seat → World → Type 0
 Moves pr drawn w j s v = Step pr w v × Stands drawn s v j

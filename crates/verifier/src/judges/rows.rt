@@ -1,7 +1,7 @@
 //! Rows of the office's digests, and which of a row's digests are good.
 
 ghost use mathlib.Core.Path.{_≡_};
-ghost use Rattle.verifier.specs.Rows.{filled, gathered, flags};
+ghost use Rattle.verifier.specs.Rows.{gathered, flags};
 use crate::judges::Flags;
 use crate::judges::searches::has_digest;
 use device::digests::Digest;

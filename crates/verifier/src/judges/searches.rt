@@ -1,8 +1,10 @@
 //! Looks through what a judge keeps.
 
 ghost use mathlib.Core.Path.{_≡_};
+ghost use Prim.Native.Nat.{_<_};
 ghost use lib.Dec.{eqb};
-ghost use Rattle.std.specs.shelf.Text.{sameBytes};
+ghost use lib.ListN.{length};
+ghost use Rattle.std.specs.Options.{Cases};
 ghost use Rattle.verifier.specs.Searches.{some, seek, place, is-digest, has-number, asks};
 use crate::judges::List;
 use crate::judges::Question;
@@ -58,7 +60,8 @@ fn asks_this(question: Question, chip: u32, data: Data) -> bool
 
 /// Where the newest question with this chip and this data stands.
 pub fn find_question(questions: &[Question], chip: u32, data: Data) -> Option<usize>
-    ensures { λ r. ⌜ r ≡ place (asks chip «data») 0 (now (questions .entry)) ⌝ }
+    ensures exact { λ r. ⌜ r ≡ place (asks chip «data») 0 (now (questions .entry)) ⌝ }
+    ensures within { λ r. ⌜ Cases r (Unit {0}) (λ i. i < length (now (questions .entry))) ⌝ }
 {
     for i in 0..questions.len() {
         if asks_this(questions[i], chip, data) {

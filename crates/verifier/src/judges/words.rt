@@ -1,9 +1,8 @@
 //! What each word does to a judge; what is refused changes nothing.
 
 ghost use mathlib.Core.Path.{_≡_};
-ghost use Rattle.std.specs.Of.Vec.{vec-items};
 ghost use Rattle.verifier.specs.Rows.{flags};
-ghost use Rattle.verifier.specs.Worlds.{Office-steps, Net-steps, Refuses, Lacks, Falls};
+ghost use Rattle.verifier.specs.Worlds.{Begins, Office-steps, Net-steps, Refuses, Lacks, Falls};
 ghost use Rattle.verifier.specs.Seats.{seat, new-seat, listed, on-list, begins, signs, found, chip-of, list-of, good-of, ticks-of, ask-of, answer-of, office-of, net-of};
 use crate::judges::Flags;
 use crate::judges::Judge;
@@ -29,7 +28,8 @@ use std::alloc::Global;
 impl Judge {
     /// A judge that knows nothing but the first program.
     pub fn new(heap: Global, first: Digest) -> Judge
-        ensures { λ r. ⌜ seat r ≡ new-seat first ⌝ }
+        ensures exact { λ r. ⌜ seat r ≡ new-seat first ⌝ }
+        ensures begins { λ r. ⌜ Begins (seat r) ⌝ }
     {
         Judge {
             first,
@@ -44,9 +44,15 @@ impl Judge {
     pub fn known(&self, digest: Digest) -> bool
         ensures { λ r. ⌜ r ≡ on-list (seat (now (self .entry)) .good) digest ⌝ }
     {
+        has_digest(self.office_list(), digest)
+    }
+
+    fn office_list(&self) -> &[Digest]
+        ensures { λ r. ⌜ now r ≡ listed (seat (now (self .entry)) .good) ⌝ }
+    {
         match &self.good {
-            Some(good) => has_digest(good.as_slice(), digest),
-            None => has_digest(&[], digest),
+            Some(good) => good.as_slice(),
+            None => &[],
         }
     }
 }
@@ -74,7 +80,7 @@ impl Judge {
         ensures steps { λ r. ⌜ Net-steps (seat (now (self .entry))) word (seat (now (self .exit)), r) ⌝ }
         ensures refuses { λ r. ⌜ Refuses (seat (now (self .entry))) (seat (now (self .exit)), r) ⌝ }
     {
-        self.overhear(word)
+        self.hear_net(word)
     }
 
     /// The judge loses all that it was given, and its questions.
@@ -107,7 +113,7 @@ impl Judge {
         }
     }
 
-    fn overhear(&mut self, word: Word) -> Said
+    fn hear_net(&mut self, word: Word) -> Said
         ensures { λ r. ⌜ (seat (now (self .exit)), r) ≡ net-of (seat (now (self .entry))) word ⌝ }
     {
         match word {
@@ -224,10 +230,7 @@ impl Judge {
     fn flags(&self, row: Register) -> Flags
         ensures { λ r. ⌜ r ≡ flags (listed (seat (now (self .entry)) .good)) row ⌝ }
     {
-        match &self.good {
-            Some(good) => flag(good.as_slice(), row),
-            None => flag(&[], row),
-        }
+        flag(self.office_list(), row)
     }
 }
 

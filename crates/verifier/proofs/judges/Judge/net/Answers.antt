@@ -4,4 +4,4 @@ use Rattle.verifier.proofs.Worlds.{net-steps}
 use Rattle.verifier.proofs.Refusals.{net-idle}
 
 pub returns : need.returns
-returns c = record { exact = c .overhear .ensures; steps = net-steps (seat (c .args .self .now)) (c .args .word) _ (c .overhear .ensures); refuses = net-idle (seat (c .args .self .now)) (c .args .word) _ (c .overhear .ensures) .0 }
+returns c = record { exact = c .hear-net .ensures; steps = net-steps (seat (c .args .self .now)) (c .args .word) _ (c .hear-net .ensures); refuses = net-idle (seat (c .args .self .now)) (c .args .word) _ (c .hear-net .ensures) .0 }
