@@ -1,10 +1,8 @@
 //! What each word does to a judge; what is refused changes nothing.
 
 ghost use mathlib.Core.Path.{_≡_};
-ghost use Rattle.verifier.specs.Rows.{flags};
 ghost use Rattle.verifier.specs.Worlds.{Begins, Office-steps, Net-steps, Refuses, Lacks, Falls};
 ghost use Rattle.verifier.specs.Seats.{seat, new-seat, listed, on-list, begins, signs, found, chip-of, list-of, good-of, ticks-of, ask-of, answer-of, office-of, net-of};
-use crate::judges::Flags;
 use crate::judges::Judge;
 use crate::judges::List;
 use crate::judges::Question;
@@ -24,6 +22,17 @@ use device::digests::Digest;
 use device::refusals::Refusal;
 use device::registers::Register;
 use std::alloc::Global;
+
+const MAX_CHIPS: usize = 64;
+
+const MAX_LISTS: usize = 256;
+
+const MAX_GOOD: usize = 1024;
+
+const MAX_QUESTIONS: usize = 64;
+
+/// Ticks that a question stays open.
+const PATIENCE: u32 = 60;
 
 impl Judge {
     /// A judge that knows nothing but the first program.
@@ -127,7 +136,7 @@ impl Judge {
     fn chip(&mut self, chip: u32) -> Said
         ensures { λ r. ⌜ (seat (now (self .exit)), r) ≡ chip-of (found r) (seat (now (self .entry))) chip ⌝ }
     {
-        if self.chips.len() >= 64 {
+        if self.chips.len() >= MAX_CHIPS {
             return Said::Refused(Refusal::BadList);
         }
         if has_chip(self.chips.as_slice(), chip) {
@@ -145,7 +154,7 @@ impl Judge {
         if !begins(self.first, digests) {
             return Said::Refused(Refusal::BadList);
         }
-        if self.lists.len() >= 256 {
+        if self.lists.len() >= MAX_LISTS {
             return Said::Refused(Refusal::BadList);
         }
         if find_list(self.lists.as_slice(), number).is_some() {
@@ -163,7 +172,7 @@ impl Judge {
     fn take_good(&mut self, heap: Global, digests: &[Digest]) -> Said
         ensures { λ r. ⌜ (seat (now (self .exit)), r) ≡ good-of (found r) (seat (now (self .entry))) (now (digests .entry)) ⌝ }
     {
-        if digests.len() > 1024 {
+        if digests.len() > MAX_GOOD {
             return Said::Refused(Refusal::BadList);
         }
         if self.good.is_some() {
@@ -197,11 +206,11 @@ impl Judge {
         let question = Question {
             chip,
             data,
-            left: 60,
+            left: PATIENCE,
         };
         match self.questions.insert(0, question) {
             Ok(()) => {
-                self.questions.truncate(64);
+                self.questions.truncate(MAX_QUESTIONS);
                 Said::Asks(chip, data)
             }
             Err(_) => Said::NoMemory,
@@ -224,13 +233,8 @@ impl Judge {
             return Said::Refused(Refusal::BadSignature);
         }
         self.questions.remove(i);
-        Said::Accepted(list.number, list.row, self.flags(list.row))
-    }
-
-    fn flags(&self, row: Register) -> Flags
-        ensures { λ r. ⌜ r ≡ flags (listed (seat (now (self .entry)) .good)) row ⌝ }
-    {
-        flag(self.office_list(), row)
+        let flags = flag(self.office_list(), list.row);
+        Said::Accepted(list.number, list.row, flags)
     }
 }
 
