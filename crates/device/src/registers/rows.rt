@@ -21,6 +21,20 @@ impl Register {
         }
     }
 
+    /// How many digests there are.
+    pub fn len(self) -> usize
+        ensures { λ r. ⌜ r ≡ self .len ⌝ }
+    {
+        self.len
+    }
+
+    /// The digests, the oldest first; those past the row's end mean nothing.
+    pub fn digests(self) -> [Digest; 16]
+        ensures { λ r. ⌜ r ≡ self .digests ⌝ }
+    {
+        self.digests
+    }
+
     /// One digest more, or nothing where the register is full.
     pub fn with(self, digest: Digest) -> Option<Register>
         ensures { λ r. ⌜ r ≡ pushed self digest ⌝ }
