@@ -26,7 +26,7 @@ use Rattle.device.specs.declared.registers.Register.{Register}
 use Rattle.device.specs.Rows.{row, words, pushed}
 use Rattle.device.specs.Commands.{put-of, put-by}
 use Rattle.device.specs.Worlds as chip
-use Rattle.device.proofs.Rows.{words-more, row-empty, some-is}
+use Rattle.device.proofs.Rows.{words-more, row-length, row-empty, some-is}
 use Rattle.device.proofs.Worlds as chips
 use Rattle.boot.specs.declared.disks.Name.{Name}
 use Rattle.boot.specs.declared.disks.Entry.{Entry}
@@ -140,7 +140,7 @@ starts m first es xs n r is pr w a h e = subst (λ q. Started pr w a (q .0)) (sy
 
 -- ---- a further program
 
-asked : (m : Machine) (es : List Entry) (o : Option Machine) (d : Digest) → load-of m d ≡ o → (length (row (m .ran)) ≡ 0 → ⊥) → Asks m (asked-from es m o .1)
+asked : (m : Machine) (es : List Entry) (o : Option Machine) (d : Digest) → load-of m d ≡ o → (m .ran .len ≡ 0 → ⊥) → Asks m (asked-from es m o .1)
 asked m es None d e some = record { loads = λ pr w a h f. absurd (grind arith) }
 asked m es (Some n) d e some = record { loads = λ pr w a h f. by pr w a h }
   where
@@ -148,7 +148,7 @@ asked m es (Some n) d e some = record { loads = λ pr w a h f. by pr w a h }
     l = loads-of m d n e
 
     runs : (pr : Programs) (w : World) (a : ℕ) → Stands m w a → (ds : List term.Digest) → words (m .ran) ≡ ds → (q : term.Digest) × (qs : List term.Digest) × (w .machines a .ran ≡ q ∷ qs)
-    runs pr w a h [] is = absurd (some (row-empty (m .ran) is))
+    runs pr w a h [] is = absurd (some (sym (row-length (m .ran)) ∙ row-empty (m .ran) is))
     runs pr w a h (q ∷ qs) is = (q, qs, sym (h .ran-is) ∙ is)
 
     by : (pr : Programs) (w : World) (a : ℕ) → Stands m w a → step.Step pr w (effect.on-machine a (effect.loaded (latest (words (n .ran)))) w) × Stands n (effect.on-machine a (effect.loaded (latest (words (n .ran)))) w) a
@@ -158,7 +158,7 @@ asked m es (Some n) d e some = record { loads = λ pr w a h f. by pr w a h }
         let is : latest (words (n .ran)) ≡ d .bytes = ap latest (l .ran-is) in
         subst (λ p. step.Step pr w (effect.on-machine a (effect.loaded p) w) × Stands n (effect.on-machine a (effect.loaded p) w) a) (sym is) (s, record { chip-stands = c; ran-is = l .ran-is ∙ ap (λ r. d .bytes ∷ r) (h .ran-is) ∙ sym (ap (λ x. x .ran) (at-same a _ (w .machines))) })
 
-asks-at : (m : Machine) (es : List Entry) (n : Name) (b : Bool) → eqb (length (row (m .ran))) 0 ≡ b → Asks m (cond b (es, (m, Some Malformed)) (program-from (program-of es n .0) m (program-of es n .1)) .1)
+asks-at : (m : Machine) (es : List Entry) (n : Name) (b : Bool) → eqb (m .ran .len) 0 ≡ b → Asks m (cond b (es, (m, Some Malformed)) (program-from (program-of es n .0) m (program-of es n .1)) .1)
 asks-at m es n true e = record { loads = λ pr w a h f. absurd (grind arith) }
 asks-at m es n false e = by (program-of es n .1)
   where
@@ -182,4 +182,4 @@ refused-at m es n false = by (program-of es n .1)
     by (Some d) = loaded (load-of m d)
 
 pub refuses : (m : Machine) (es xs : List Entry) (n : Name) (r : Machine × Option Refusal) → (xs, r) ≡ ask-of m es n → Refuses m r
-refuses m es xs n r is = subst (λ q. Refuses m q) (sym (ap (λ q. q .1) is)) (refused-at m es n (eqb (length (row (m .ran))) 0))
+refuses m es xs n r is = subst (λ q. Refuses m q) (sym (ap (λ q. q .1) is)) (refused-at m es n (eqb (m .ran .len) 0))

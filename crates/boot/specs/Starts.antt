@@ -57,4 +57,4 @@ program-from es m (Some d) = asked-from es m (load-of m d)
 
 -- what runs asks for a further program
 abbrev pub ask-of : Machine → List Entry → Name → Outcome
-ask-of m es n = cond (eqb (length (row (m .ran))) 0) (es, (m, Some Malformed)) (program-from (program-of es n .0) m (program-of es n .1))
+ask-of m es n = cond (eqb (m .ran .len) 0) (es, (m, Some Malformed)) (program-from (program-of es n .0) m (program-of es n .1))

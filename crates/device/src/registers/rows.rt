@@ -61,12 +61,6 @@ impl Register {
         mine[0..n] == theirs[0..m]
     }
 
-    pub fn len(self) -> usize
-        ensures { λ r. ⌜ r ≡ length (row self) ⌝ }
-    {
-        self.len
-    }
-
     /// The digest at this place, the oldest at 0.
     pub fn digest(self, i: usize) -> Option<Digest>
         ensures { λ r. ⌜ r ≡ nth (row self) i ⌝ }
