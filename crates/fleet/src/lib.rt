@@ -1,0 +1,3 @@
+//! Machines, judges and outsiders together, by value: one public `play` for one event.
+
+pub mod fleets;
