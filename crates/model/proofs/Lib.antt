@@ -1,14 +1,14 @@
-mod Lists
+pub mod Lists
 pub mod Places
-mod Knowledge
+pub mod Knowledge
 mod Machines
-mod History
+pub mod History
 mod Judges
-mod Moments
+pub mod Moments
 mod Draws
 mod Secrets
 mod Secrecy
 mod Acceptances
 mod Openings
 mod Liveness
-mod Main
+pub mod Main

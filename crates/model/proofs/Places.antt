@@ -26,3 +26,7 @@ at-all {A} P a x f new old j = go (eqb j a) refl
 -- where the change leaves what g reads as it was, g reads the same everywhere
 pub at-unread : {A B : Type 0} (g : A → B) (a : ℕ) (x : A) (f : ℕ → A) → g x ≡ g (f a) → _≡_ {A = ℕ → B} (λ j. g (at a x f j)) (λ j. g (f j))
 at-unread g a x f e = fun-ext (at-all (λ j y. g y ≡ g (f j)) a x f e (λ j _. refl))
+
+-- elsewhere nothing changed
+pub at-other : {A : Type 0} (a : ℕ) (x : A) (f : ℕ → A) (j : ℕ) → (j ≡ a → ⊥) → at a x f j ≡ f j
+at-other {A} a x f j other = at-all (λ k y. (k ≡ a → ⊥) → y ≡ f k) a x f (λ same. absurd (same refl)) (λ k _ _. refl) j other

@@ -1,0 +1,3 @@
+pub mod News
+pub mod Standing
+pub mod Acts
