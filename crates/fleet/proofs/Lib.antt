@@ -1,3 +1,4 @@
 pub mod News
 pub mod Standing
 pub mod Acts
+pub mod Words

@@ -31,14 +31,14 @@ use Rattle.fleet.proofs.News.{Any, drawn-news}
 use Rattle.fleet.specs.Worlds.{Setting, term-by, term-of, drawn, FleetStands}
 
 -- a machine, or a judge, that did not change stands as it did
-machine-else : (x : Machine) (w v : World) (j : ℕ) → v .machines j ≡ w .machines j → boot.Stands x w j → boot.Stands x v j
+pub machine-else : (x : Machine) (w v : World) (j : ℕ) → v .machines j ≡ w .machines j → boot.Stands x w j → boot.Stands x v j
 machine-else x w v j e h = record { chip-stands = record { is = h .chip-stands .is; like = subst (λ m. Like (x .chip) m) (sym e) (h .chip-stands .like) }; ran-is = h .ran-is ∙ ap (λ m. m .ran) (sym e) }
 
 pub seat-else : (d : List ℕ → ℕ) (s : Seat) (w v : World) (j : ℕ) → v .judges j ≡ w .judges j → verifier.Stands d s w j → verifier.Stands d s v j
 seat-else d s w v j e h = record { chips-are = h .chips-are ∙ ap (λ x. x .chips) (sym e); lists-are = h .lists-are ∙ ap (λ x. x .lists) (sym e); questions-are = h .questions-are ∙ ap (λ x. x .questions) (sym e) }
 
 -- at the place that was set, and elsewhere
-set-each : {A : Type 0} (P : A → ℕ → Type 0) (d : A) (xs : List A) (i : ℕ) (x : A) → i < length xs → P x i → ((j : ℕ) → (j ≡ i → ⊥) → j < length xs → P (getD xs j d) j) → (j : ℕ) → j < length (set xs i x) → P (getD (set xs i x) j d) j
+pub set-each : {A : Type 0} (P : A → ℕ → Type 0) (d : A) (xs : List A) (i : ℕ) (x : A) → i < length xs → P x i → ((j : ℕ) → (j ≡ i → ⊥) → j < length xs → P (getD xs j d) j) → (j : ℕ) → j < length (set xs i x) → P (getD (set xs i x) j d) j
 set-each P d xs i x below new old j in-range = by (eqb j i) refl
   where
     short : j < length xs

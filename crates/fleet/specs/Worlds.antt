@@ -31,6 +31,8 @@ use Rattle.boot.specs.Machines as machine
 use Rattle.boot.specs.Starts.{start-of, ask-of}
 use Rattle.boot.specs.Worlds as boot
 use Rattle.boot.specs.Worlds.{after-row, latest}
+use Rattle.verifier.specs.declared.judges.Flags.{Flags}
+use Rattle.verifier.specs.declared.judges.Question.{Question}
 use Rattle.verifier.specs.declared.judges.Reply.{Reply}
 use Rattle.verifier.specs.declared.judges.Said.{Said}
 use Rattle.verifier.specs.declared.judges.Said.the-variants as said
@@ -38,7 +40,7 @@ use Rattle.verifier.specs.declared.judges.Word.{Word}
 use Rattle.verifier.specs.declared.judges.Word.the-variants as word
 use Rattle.verifier.specs.Ages.{aged}
 use Rattle.verifier.specs.Searches.{some, is-digest}
-use Rattle.verifier.specs.Seats.{Seat, new-seat, new-question}
+use Rattle.verifier.specs.Seats.{Seat, new-seat, new-question, office-of, net-of}
 use Rattle.verifier.specs.Worlds as verifier
 use Rattle.verifier.specs.Worlds.{question-of, questions-of, asked}
 use Rattle.fleet.specs.declared.fleets.Act.{Act}
@@ -47,7 +49,7 @@ use Rattle.fleet.specs.declared.fleets.Event.{Event}
 use Rattle.fleet.specs.declared.fleets.Event.the-variants.{At, Office, Net, Fall, Write, Wipe}
 use Rattle.fleet.specs.declared.fleets.Report.{Report}
 use Rattle.fleet.specs.declared.fleets.Report.the-variants.{Done, Refused, Unwilling, Nobody, NoMemory, Answered, Told, Accepted}
-use Rattle.fleet.specs.Sights.{Sight, tainted, machine-at, seat-at, acted, played}
+use Rattle.fleet.specs.Sights.{Sight, tainted, machine-at, seat-at, with-seat, acted, judged, played}
 
 -- what is given with a run: which programs are good, and which drawn bytes are which nonce; one nonce is not two strings of bytes
 pub record Setting : Type 0 where
@@ -163,3 +165,68 @@ pub record Goes (o : Setting) (s : Sight) (w v : World) : Type 0 where
 -- every event at a machine
 abbrev pub MachineEvents : Type 0
 MachineEvents = (o : Setting) (m : Bool) (s : Sight) (i : ℕ) (a : Act) (w : World) (h : ActAllowed o m i (machine-at s i) a w) → i < length (s .machines) → FleetStands o s w → Goes o (acted m i s (machine-at s i) a .0) w (after-act o m i s (machine-at s i) a w h)
+
+-- ---- the world after a word to judge j
+
+-- v where this was said, else w
+abbrev pub when-done : Said → World → World → World
+when-done said.Done v w = v
+when-done (said.Asks a q) v w = w
+when-done (said.Accepted n r f) v w = w
+when-done (said.Refused k) v w = w
+when-done said.NoMemory v w = w
+
+abbrev pub when-asks : Said → World → World → World
+when-asks said.Done v w = w
+when-asks (said.Asks a q) v w = v
+when-asks (said.Accepted n r f) v w = w
+when-asks (said.Refused k) v w = w
+when-asks said.NoMemory v w = w
+
+abbrev pub when-accepts : Said → (Register → World) → World → World
+when-accepts said.Done v w = w
+when-accepts (said.Asks a q) v w = w
+when-accepts (said.Accepted n r f) v w = v r
+when-accepts (said.Refused k) v w = w
+when-accepts said.NoMemory v w = w
+
+-- a judge accepts, and has these questions left
+abbrev pub accepted-world : Setting → ℕ → Reply → List Question → World → Register → World
+accepted-world o j p qs w r = effect.having-accepted (effect.acceptance (question-of (drawn o) j (new-question (p .chip) (p .«data»))) (words r)) (on-judge j (effect.with-questions (questions-of (drawn o) j qs)) w)
+
+-- d: the judge before; r: the judge after, and what it said
+abbrev pub after-word : Setting → (j : ℕ) (d : Seat) → Word → List Digest → Seat × Said → World → World
+after-word o j d (word.Ask a) ds r w = when-asks (r .1) (on-judge j (effect.with-questions (asked j a w)) (effect.asking (effect.question j a w) w)) w
+after-word o j d (word.List n) ds r w = when-done (r .1) (on-judge j (effect.with-list (verifier.latest ds)) w) w
+after-word o j d word.Good ds r w = w
+after-word o j d (word.Chip a) ds r w = when-done (r .1) (on-judge j (effect.with-chip a) w) w
+after-word o j d (word.Ticks n) ds r w = on-judge j (effect.with-questions (questions-of (drawn o) j (aged n (d .questions)))) w
+after-word o j d (word.Answer p) ds r w = when-accepts (r .1) (accepted-world o j p (r .0 .questions) w) w
+
+-- what a judge asks with was just drawn; a signature that it accepts is one that outsiders can have
+abbrev pub WordAllowed : Setting → Word → Said → World → Type 0
+WordAllowed o (word.Ask a) x w = (b : ℕ) (q : Data) → x ≡ said.Asks b q → o .names (q .bytes) ≡ Some (w .next)
+WordAllowed o (word.List n) x w = Unit {0}
+WordAllowed o word.Good x w = Unit {0}
+WordAllowed o (word.Chip a) x w = Unit {0}
+WordAllowed o (word.Ticks n) x w = Unit {0}
+WordAllowed o (word.Answer p) x w = (n : ℕ) (r : Register) (f : Flags) → x ≡ said.Accepted n r f → Derives (w .heard) (term.Sign (p .chip) (effect.statement (effect.honest (drawn o (p .«data» .bytes))) (words (p .signature .register))))
+
+-- every word to a judge, by the office's line or by the net
+abbrev pub OfficeWords : Type 0
+OfficeWords = (o : Setting) (s : Sight) (j : ℕ) (x : Word) (ds : List Digest) (draw : Option Data) (w : World) → j < length (s .seats) → FleetStands o s w → WordAllowed o x (office-of true (seat-at s j) x ds draw .1) w → Goes o (judged j s x (office-of true (seat-at s j) x ds draw) .0) w (after-word o j (seat-at s j) x ds (office-of true (seat-at s j) x ds draw) w)
+
+-- from the net only answers do anything
+abbrev pub after-net : Setting → (j : ℕ) (d : Seat) → Word → Seat × Said → World → World
+after-net o j d (word.Ask a) r w = w
+after-net o j d (word.List n) r w = w
+after-net o j d word.Good r w = w
+after-net o j d (word.Chip a) r w = w
+after-net o j d (word.Ticks n) r w = w
+after-net o j d (word.Answer p) r w = after-word o j d (word.Answer p) [] r w
+
+abbrev pub NetWords : Type 0
+NetWords = (o : Setting) (s : Sight) (j : ℕ) (x : Word) (w : World) → j < length (s .seats) → FleetStands o s w → WordAllowed o x (net-of (seat-at s j) x .1) w → Goes o (judged j s x (net-of (seat-at s j) x) .0) w (after-net o j (seat-at s j) x (net-of (seat-at s j) x) w)
+
+abbrev pub JudgeFalls : Type 0
+JudgeFalls = (o : Setting) (s : Sight) (j : ℕ) (w : World) → j < length (s .seats) → FleetStands o s w → Goes o (with-seat j (new-seat (seat-at s j .first)) s) w (on-judge j (λ _. effect.new-judge) w)
