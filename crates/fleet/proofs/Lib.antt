@@ -2,3 +2,4 @@ pub mod News
 pub mod Standing
 pub mod Acts
 pub mod Words
+pub mod Plays

@@ -12,9 +12,13 @@ use Rattle.std.specs.declared.option.Option.the-variants.{Some, None}
 use Rattle.model.specs.Term as term
 use Rattle.model.specs.Term.{Term, Derives, has}
 use Rattle.model.specs.World as world
-use Rattle.model.specs.World.{World}
+use Rattle.model.specs.World.{Programs, World}
 use Rattle.model.specs.Effect as effect
-use Rattle.model.specs.Effect.{on-judge, honest}
+use Rattle.model.specs.Effect.{made, on-judge, honest}
+use Rattle.model.specs.Promise.{OneMore, Judged}
+use Rattle.model.proofs.Main.{main}
+use mathlib.Core.Logic.{inl, inr}
+use Rattle.fleet.specs.Runs.{word-claim}
 use Rattle.model.specs.Step as step
 use Rattle.model.specs.Run.{Run, here, onward}
 use Rattle.model.proofs.Places.{at-same, at-other}
@@ -202,6 +206,25 @@ module _ (o : Setting) (s : Sight) (j : ℕ) (w : World) (below : j < length (s 
   net-goes (word.Chip a) h = same d refl
   net-goes (word.Ticks n) h = same d refl
   net-goes (word.Answer p) h = answer-goes p _ refl h
+
+-- ---- an acceptance is true
+
+longer : {A : Type 0} (x : A) (xs : List A) → x ∷ xs ≡ xs → ⊥
+longer x xs e = let long : length (x ∷ xs) ≡ length xs = ap length e in absurd (omega arith)
+
+-- a step that adds this acceptance adds one that is judged
+added : {pr : Programs} {k : ℕ} {w : World} (l : Run pr k made w) (c : world.Acceptance) {new : List world.Acceptance} → OneMore (Judged pr l) (w .accepted) new → new ≡ c ∷ w .accepted → Judged pr l c
+added {w = w} l c (inl e) is = absurd (longer c (w .accepted) (sym is ∙ e))
+added {pr} l c (inr (z, e, j)) is = let same : z ≡ c = cc in subst (λ y. Judged pr l y) same j
+
+pub answer-true : (o : Setting) (s : Sight) (j : ℕ) (w : World) → j < length (s .seats) → FleetStands o s w → (p : Reply) (r : Seat × Said) → r ≡ answer-of (seat-at s j) p → WordAllowed o (word.Answer p) (r .1) w → {k : ℕ} (l : Run (o .programs) k made w) → word-claim o j (word.Answer p) (judged j s (word.Answer p) r .1) l
+answer-true o s j w below f p (e, said.Done) is h l = tt
+answer-true o s j w below f p (e, said.Asks b c) is h l = tt
+answer-true o s j w below f p (e, said.Accepted n r g) is h {k} l =
+    let (t, _) = judges.net-steps (seat-at s j) (word.Answer p) _ is .accepts (o .programs) (drawn o) w j n r g (f .seats-stand j below) refl (h n r g refl) in
+    added l _ (main (o .programs) k w l .acceptances .judged _ t) refl
+answer-true o s j w below f p (e, said.Refused k) is h l = tt
+answer-true o s j w below f p (e, said.NoMemory) is h l = tt
 
 pub office-words : OfficeWords
 office-words o s j x ds draw w below f h = office-goes o s j w below f x ds draw h

@@ -1,5 +1,6 @@
 //! What is promised of the fleet's events. Each function answers 0: the point is its contract.
 
+ghost use Rattle.fleet.specs.Runs.{Plays, FleetPromise};
 ghost use Rattle.fleet.specs.Worlds.{MachineEvents, OfficeWords, NetWords, JudgeFalls};
 
 /// Every event at a machine is matched by steps of the world.
@@ -14,6 +15,15 @@ pub fn judge_events_hold() -> u8
     ensures office { λ _. ⌜ OfficeWords ⌝ }
     ensures net { λ _. ⌜ NetWords ⌝ }
     ensures falls { λ _. ⌜ JudgeFalls ⌝ }
+{
+    0
+}
+
+/// Every event is matched by steps of the world; and over any sequence of events, from the making of the fleet on, the
+/// promise of the whole holds and every acceptance that was reported is true.
+pub fn promise_holds() -> u8
+    ensures plays { λ _. ⌜ Plays ⌝ }
+    ensures promise { λ _. ⌜ FleetPromise ⌝ }
 {
     0
 }
