@@ -1,2 +1,3 @@
+pub mod Eaches
 pub mod Seating
 pub mod Taints

@@ -2,6 +2,7 @@
 
 mod acts;
 mod judging;
+pub mod makes;
 pub mod plays;
 pub mod searches;
 
