@@ -84,10 +84,11 @@ impl Fleet {
         requires { ⌜ i < vec-len (now self .machines) ⌝ }
         ensures { λ r. ⌜ (sight (now (self .exit)), r) ≡ acted (found r) i (sight (now (self .entry))) machine (acts.Run digest) ⌝ }
     {
-        if !self.tainted(machine.ran) {
+        let before = machine.ran;
+        if !self.tainted(before) {
             return Report::Unwilling;
         }
-        let Some(ran) = machine.ran.with(digest) else {
+        let Some(ran) = before.with(digest) else {
             return Report::Refused(Refusal::Full);
         };
         self.machines[i] = Machine { ran, ..machine };
@@ -98,10 +99,10 @@ impl Fleet {
         requires { ⌜ i < vec-len (now self .machines) ⌝ }
         ensures { λ r. ⌜ (sight (now (self .exit)), r) ≡ acted (found r) i (sight (now (self .entry))) machine (acts.CutCount written) ⌝ }
     {
-        let (counted, _) = machine.chip.count();
-        let chip = if written { counted } else { machine.chip };
-        let cut = Machine { chip, ..machine };
-        self.machines[i] = cut.switch();
+        let (next, _) = machine.chip.count();
+        let chip = if written { next } else { machine.chip };
+        let counted = Machine { chip, ..machine };
+        self.machines[i] = counted.switch();
         Report::Done
     }
 
@@ -111,8 +112,8 @@ impl Fleet {
         ensures { λ r. ⌜ (sight (now (self .exit)), r) ≡ acted (found r) i (sight (now (self .entry))) machine acts.CutClose ⌝ }
     {
         let (chip, _) = machine.chip.close(Target::Nowhere, Data { bytes: [0; 32] });
-        let cut = Machine { chip, ..machine };
-        self.machines[i] = cut.switch();
+        let closed = Machine { chip, ..machine };
+        self.machines[i] = closed.switch();
         Report::Done
     }
 }
@@ -162,8 +163,11 @@ impl Fleet {
         let Answer::Signed(signature) = answer else {
             return Report::Answered(answer);
         };
-        let ran = machine.ran;
-        match self.shown.insert(0, Shown { signature, ran }) {
+        let shown = Shown {
+            signature,
+            ran: machine.ran,
+        };
+        match self.shown.insert(0, shown) {
             Ok(()) => {
                 self.machines[i] = Machine { chip, ..machine };
                 Report::Answered(answer)

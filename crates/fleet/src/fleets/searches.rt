@@ -36,7 +36,7 @@ impl Fleet {
     }
 
     /// Whether one of these programs is bad.
-    pub fn tainted(&self, ran: Register) -> bool
+    pub(crate) fn tainted(&self, ran: Register) -> bool
         ensures { λ r. ⌜ r ≡ any-bad (sight (now (self .entry)) .bad) (row ran) ⌝ }
     {
         let digests = ran.digests();
@@ -45,7 +45,7 @@ impl Fleet {
     }
 
     /// What had been loaded when this signature was given out.
-    pub fn really_ran(&self, signature: Signature) -> Option<Register>
+    fn really_ran(&self, signature: Signature) -> Option<Register>
         ensures { λ r. ⌜ r ≡ really-ran (sight (now (self .entry))) signature ⌝ }
     {
         match find_shown(self.shown.as_slice(), signature) {
@@ -55,7 +55,7 @@ impl Fleet {
     }
 
     /// The same for a word, if it brings a signature.
-    pub fn ran_for(&self, word: Word) -> Option<Register>
+    pub(crate) fn ran_for(&self, word: Word) -> Option<Register>
         ensures { λ r. ⌜ r ≡ ran-for (sight (now (self .entry))) (signature-in word) ⌝ }
     {
         match word {
