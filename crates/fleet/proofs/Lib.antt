@@ -1,5 +1,8 @@
-pub mod News
-pub mod Standing
 pub mod Acts
-pub mod Words
+pub mod Eaches
+pub mod News
 pub mod Plays
+pub mod Seating
+pub mod Standing
+pub mod Taints
+pub mod Words

@@ -1,3 +1,4 @@
+pub mod Makes
 pub mod Runs
 pub mod Sights
 pub mod Worlds

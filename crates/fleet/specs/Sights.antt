@@ -123,6 +123,10 @@ opening-told b i s x (c, answer.Closed y) = answering i s x (c, answer.Closed y)
 opening-told b i s x (c, answer.Now n r) = answering i s x (c, answer.Now n r)
 opening-told b i s x (c, answer.Refused k) = answering i s x (c, answer.Refused k)
 
+-- the same of a bad program; m: whether memory is found for what outsiders hear
+abbrev pub betrayed : Bool → ℕ → Sight → Machine → Chip × Answer → Sight × Report
+betrayed m i s x r = cond m (opening-told true i s x r) (s, NoMemory)
+
 -- m: whether memory is found for what is to be remembered
 abbrev pub given : Bool → ℕ → Sight → Machine → Command → Sight × Report
 given m i s x (command.Put d) = cond (tainted s x) (answering i s x (chip.put-of (x .chip) d)) (s, Unwilling)

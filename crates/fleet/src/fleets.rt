@@ -1,5 +1,11 @@
 //! The fleet, what can happen to it, and what it reports.
 
+mod acts;
+mod judging;
+pub mod makes;
+pub mod plays;
+pub mod searches;
+
 use boot::disks::Disk;
 use boot::disks::File;
 use boot::disks::Name;

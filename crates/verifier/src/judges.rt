@@ -2,7 +2,7 @@
 
 mod ages;
 mod rows;
-mod searches;
+pub mod searches;
 pub mod words;
 
 use device::chips::Signature;
