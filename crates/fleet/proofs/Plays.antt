@@ -35,7 +35,8 @@ use Rattle.fleet.specs.declared.fleets.Report.{Report}
 use Rattle.fleet.specs.declared.fleets.Report.the-variants.{Done, Nobody, NoMemory}
 use Rattle.fleet.specs.Worlds.{Setting, drawn, FleetStands, ActAllowed, WordAllowed, after-word, after-net, Goes}
 use Rattle.verifier.specs.Seats.{Seat, new-seat, office-of, net-of}
-use Rattle.fleet.specs.Runs.{Allowed, after-at, after, Plays, Happening, next, Ran, Ready, final, word-claim, Claim, Claims, NewFleet, Agrees, Kept, FleetPromise}
+use Rattle.fleet.specs.Runs.{Allowed, after-at, after, Plays, Happening, next, Ran, Ready, final, word-claim, Claim, Claims, Agrees, Kept, PlaySteps, Tells, FleetPromise}
+use Rattle.fleet.specs.Makes.{Begins}
 use Rattle.fleet.proofs.Acts.{machine-events}
 use Rattle.fleet.proofs.Words.{office-words, net-words, judge-falls, answer-true}
 use Rattle.fleet.proofs.Standing.{on-disk}
@@ -142,19 +143,27 @@ unfolding some
 some-none p = refl
 
 -- a new fleet stands for the world as it is made
-new-stands : (o : Setting) (s : Sight) → NewFleet s → Agrees o s → FleetStands o s made
-new-stands o s n (first, good) =
+new-stands : (o : Setting) (first : Digest) (bad : List Digest) (m j : ℕ) (s : Sight) → Begins first bad m j s → Agrees o s → FleetStands o s made
+new-stands o start bad m j s n (first, good) =
     record {
       first-is = first;
       good-is = good;
-      machines-stand = λ i short. subst (λ x. boot.Stands x made i) (sym (n .machines-new i short)) (record { chip-stands = record { is = refl; like = record { register-is = refl; counter-is = refl; number-is = refl } }; ran-is = refl });
-      seats-stand = λ j short. subst (λ d. verifier.Stands (drawn o) d made j) (sym (n .seats-new j short)) (record { chips-are = refl; lists-are = refl; questions-are = refl });
-      seats-first = λ j short. ap (λ d. d .first) (n .seats-new j short);
+      machines-stand = λ i short. subst (λ x. boot.Stands x made i) (sym (n .machines-are .each i _ (omega (arith, n .machines-are .long)))) (record { chip-stands = record { is = refl; like = record { register-is = refl; counter-is = refl; number-is = refl } }; ran-is = refl });
+      seats-stand = λ j short. subst (λ d. verifier.Stands (drawn o) d made j) (sym (n .seats-are .each j _ (omega (arith, n .seats-are .long)))) (record { chips-are = refl; lists-are = refl; questions-are = refl });
+      seats-first = λ j short. ap (λ d. d .first) (n .seats-are .each j _ (omega (arith, n .seats-are .long))) ∙ sym (n .first-is);
       had-noted = λ d k e h. absurd (nothing-derived k h);
-      noted-had = λ d k e g. absurd (true≢false (sym g ∙ ap (some (same-data d)) (n .nothing-heard) ∙ some-none (same-data d)))
+      noted-had = λ d k e g. absurd (true≢false (sym g ∙ ap (some (same-data d)) (n .heard-is) ∙ some-none (same-data d)))
     }
 
 pub fleet-promise : FleetPromise
-fleet-promise o s t ps n a r h =
-    let k = held o s t ps made (new-stands o s n a) r h in
+fleet-promise o first bad m j s t ps n a r h =
+    let k = held o s t ps made (new-stands o first bad m j s n a) r h in
     record { steps = k .steps; run = k .run; whole = main (o .programs) _ _ (k .run); stands = k .stands; claims = k .claims }
+
+-- ---- one call
+
+pub play-steps : (s : Sight) (e : Event) (ds : List Digest) (q : Sight × Report) → q ≡ played (found (q .1)) s e ds → PlaySteps s e ds q
+play-steps s e ds q is o w h f = subst (λ t. Goes o (t .0) w (after o (found (q .1)) s e ds w h)) (sym is) (plays o (found (q .1)) s e ds w h f)
+
+pub tells : (s : Sight) (e : Event) (ds : List Digest) (q : Sight × Report) → q ≡ played (found (q .1)) s e ds → Tells s e ds q
+tells s e ds q is o w h f k l = subst (λ t. Claim o e (t .1) l) (sym is) (claimed o (found (q .1)) s e ds w h f l)

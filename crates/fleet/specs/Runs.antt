@@ -27,6 +27,7 @@ use Rattle.fleet.specs.declared.fleets.Event.{Event}
 use Rattle.fleet.specs.declared.fleets.Event.the-variants.{At, Office, Net, Fall, Write, Wipe}
 use Rattle.fleet.specs.declared.fleets.Report.{Report}
 use Rattle.fleet.specs.declared.fleets.Report.the-variants.{Done, Refused, Unwilling, Nobody, NoMemory, Answered, Told, Accepted}
+use Rattle.fleet.specs.Makes.{Begins}
 use Rattle.fleet.specs.Sights.{Sight, found, machine-at, seat-at, played}
 use Rattle.fleet.specs.Worlds.{Setting, drawn, FleetStands, ActAllowed, after-act, WordAllowed, after-word, after-net, Goes}
 
@@ -57,6 +58,10 @@ after o m s Wipe ds w h = w
 -- of every fleet and event: the fleet after it stands for a world that is reached by steps
 abbrev pub Plays : Type 0
 Plays = (o : Setting) (m : Bool) (s : Sight) (e : Event) (ds : List Digest) (w : World) (h : Allowed o m s e ds w) → FleetStands o s w → Goes o (played m s e ds .0) w (after o m s e ds w h)
+
+-- the same of one call: q is the fleet after the event, and what it reports
+abbrev pub PlaySteps : Sight → Event → List Digest → Sight × Report → Type 0
+PlaySteps s e ds q = (o : Setting) (w : World) (h : Allowed o (found (q .1)) s e ds w) → FleetStands o s w → Goes o (q .0) w (after o (found (q .1)) s e ds w h)
 
 -- ---- many
 
@@ -114,17 +119,15 @@ Claim o (Fall j) r l = Unit {0}
 Claim o (Write n f g) r l = Unit {0}
 Claim o Wipe r l = Unit {0}
 
+-- what one call reports is true
+abbrev pub Tells : Sight → Event → List Digest → Sight × Report → Type 0
+Tells s e ds q = (o : Setting) (w : World) → Allowed o (found (q .1)) s e ds w → FleetStands o s w → (k : ℕ) (l : Run (o .programs) k made w) → Claim o e (q .1) l
+
 abbrev pub Claims : (o : Setting) (s : Sight) (ps : List Happening) (w : World) → Ready o s ps w → Type 0
 Claims o s [] w h = Unit {0}
 Claims o s (p ∷ ps) w h = ((k : ℕ) (l : Run (o .programs) k made w) → Claim o (p .event) (p .report) l) × Claims o (next s p) ps (after o (found (p .report)) s (p .event) (p .digests) w (h .0)) (h .1)
 
 -- ---- the promise
-
--- a fleet as it is made: new machines with their own numbers, new judges, and nothing heard
-pub record NewFleet (s : Sight) : Type 0 where
-  pub machines-new : (i : ℕ) → i < length (s .machines) → machine-at s i ≡ machine.new-machine i
-  pub seats-new : (j : ℕ) → j < length (s .seats) → seat-at s j ≡ new-seat (s .first)
-  pub nothing-heard : s .heard ≡ []
 
 -- the world at the end is reached by steps, so that all is promised of it; the fleet stands for it, so that it knows just which secrets outsiders have; and every acceptance that was reported is true
 pub record Kept (o : Setting) (s : Sight) (ps : List Happening) (t : Sight) (h : Ready o s ps made) : Type 0 where
@@ -139,4 +142,4 @@ abbrev pub Agrees : Setting → Sight → Type 0
 Agrees o s = (o .programs .first ≡ s .first .bytes) × ((d : Digest) → o .programs .good (d .bytes) ≡ not (some (is-digest d) (s .bad)))
 
 abbrev pub FleetPromise : Type 0
-FleetPromise = (o : Setting) (s t : Sight) (ps : List Happening) → NewFleet s → Agrees o s → Ran s ps t → (h : Ready o s ps made) → Kept o s ps t h
+FleetPromise = (o : Setting) (first : Digest) (bad : List Digest) (machines judges : ℕ) (s t : Sight) (ps : List Happening) → Begins first bad machines judges s → Agrees o s → Ran s ps t → (h : Ready o s ps made) → Kept o s ps t h

@@ -2,6 +2,7 @@
 
 ghost use mathlib.Core.Path.{_≡_};
 ghost use mathlib.Core.List.{[]};
+ghost use Rattle.fleet.specs.Runs.{PlaySteps, Tells};
 ghost use Rattle.fleet.specs.Sights.{sight, found, played};
 ghost use Rattle.fleet.specs.declared.fleets.Event.the-variants as kinds;
 use crate::fleets::Event;
@@ -16,6 +17,8 @@ impl Fleet {
     /// Plays one event; the digests are those that come beside a word to a judge.
     pub fn play(&mut self, heap: Global, event: Event, digests: &[Digest]) -> Report
         ensures exact { λ r. ⌜ (sight (now (self .exit)), r) ≡ played (found r) (sight (now (self .entry))) event (now (digests .entry)) ⌝ }
+        ensures steps { λ r. ⌜ PlaySteps (sight (now (self .entry))) event (now (digests .entry)) (sight (now (self .exit)), r) ⌝ }
+        ensures tells { λ r. ⌜ Tells (sight (now (self .entry))) event (now (digests .entry)) (sight (now (self .exit)), r) ⌝ }
     {
         self.answer(heap, event, digests)
     }
