@@ -1,4 +1,5 @@
 pub mod Acts
+pub mod Cases
 pub mod Eaches
 pub mod News
 pub mod Plays

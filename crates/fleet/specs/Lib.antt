@@ -1,3 +1,4 @@
+pub mod Cases
 pub mod Makes
 pub mod Runs
 pub mod Sights

@@ -1,5 +1,6 @@
 //! What is promised of the fleet's events. Each function answers 0: the point is its contract.
 
+ghost use Rattle.fleet.specs.Cases.{CasesHold};
 ghost use Rattle.fleet.specs.Runs.{Plays, FleetPromise};
 ghost use Rattle.fleet.specs.Worlds.{MachineEvents, OfficeWords, NetWords, JudgeFalls};
 
@@ -24,6 +25,13 @@ pub fn judge_events_hold() -> u8
 pub fn promise_holds() -> u8
     ensures plays { λ _. ⌜ Plays ⌝ }
     ensures promise { λ _. ⌜ FleetPromise ⌝ }
+{
+    0
+}
+
+/// The worked cases: every script gives what it has to.
+pub fn cases_hold() -> u8
+    ensures { λ _. ⌜ CasesHold ⌝ }
 {
     0
 }
