@@ -1,5 +1,6 @@
 pub mod Acts
 pub mod Cases
+pub mod Covered
 pub mod Eaches
 pub mod News
 pub mod Plays

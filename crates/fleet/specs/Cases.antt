@@ -32,7 +32,11 @@ use Rattle.fleet.specs.declared.fleets.Event.{Event}
 use Rattle.fleet.specs.declared.fleets.Event.the-variants.{At, Office, Net, Write}
 use Rattle.fleet.specs.declared.fleets.Report.{Report}
 use Rattle.fleet.specs.declared.fleets.Report.the-variants.{Done, Refused, Unwilling, Nobody, NoMemory, Answered, Told, Accepted}
+use Rattle.model.specs.Effect.{made}
+use Rattle.fleet.specs.Makes.{Begins}
+use Rattle.fleet.specs.Runs.{Happening, Ran, Ready, Agrees}
 use Rattle.fleet.specs.Sights.{Sight, played}
+use Rattle.fleet.specs.Worlds.{Setting}
 
 -- ---- what has to come, in short
 
@@ -215,3 +219,18 @@ new-village = record { first = first; bad = b ∷ []; machines = new-machine 0 �
 
 abbrev pub CasesHold : Type 0
 CasesHold = EachGives new-village cases
+
+-- ---- the promise is not empty
+
+-- a script with the reports that come
+abbrev pub log-of : Sight → List Line → List Happening
+log-of s [] = []
+log-of s (l ∷ ls) = record { event = l .event; digests = l .digests; report = played true s (l .event) (l .digests) .1 } ∷ log-of (played true s (l .event) (l .digests) .0) ls
+
+abbrev pub end-of : Sight → List Line → Sight
+end-of s [] = s
+end-of s (l ∷ ls) = end-of (played true s (l .event) (l .digests) .0) ls
+
+-- case A, which ends with an acceptance, begins with a new fleet and meets all that is asked of its events, in some setting that agrees with the fleet
+abbrev pub Covered : Type 0
+Covered = Begins first (b ∷ []) 1 1 new-village × Ran new-village (log-of new-village case-a) (end-of new-village case-a) × ((o : Setting) × Agrees o new-village × Ready o new-village (log-of new-village case-a) made)

@@ -1,6 +1,6 @@
 //! What is promised of the fleet's events. Each function answers 0: the point is its contract.
 
-ghost use Rattle.fleet.specs.Cases.{CasesHold};
+ghost use Rattle.fleet.specs.Cases.{CasesHold, Covered};
 ghost use Rattle.fleet.specs.Runs.{Plays, FleetPromise};
 ghost use Rattle.fleet.specs.Worlds.{MachineEvents, OfficeWords, NetWords, JudgeFalls};
 
@@ -29,9 +29,11 @@ pub fn promise_holds() -> u8
     0
 }
 
-/// The worked cases: every script gives what it has to.
+/// The worked cases: every script gives what it has to; and one of them, which ends with an acceptance, meets all that
+/// the promise asks of events.
 pub fn cases_hold() -> u8
-    ensures { λ _. ⌜ CasesHold ⌝ }
+    ensures cases { λ _. ⌜ CasesHold ⌝ }
+    ensures covered { λ _. ⌜ Covered ⌝ }
 {
     0
 }
