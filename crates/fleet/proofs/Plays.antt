@@ -152,7 +152,7 @@ new-stands o start bad m j s n (first, good) =
       seats-stand = λ j short. subst (λ d. verifier.Stands (drawn o) d made j) (sym (n .seats-are .each j _ (omega (arith, n .seats-are .long)))) (record { chips-are = refl; lists-are = refl; questions-are = refl });
       seats-first = λ j short. ap (λ d. d .first) (n .seats-are .each j _ (omega (arith, n .seats-are .long))) ∙ sym (n .first-is);
       had-noted = λ d k e h. absurd (nothing-derived k h);
-      noted-had = λ d k e g. absurd (true≢false (sym g ∙ ap (some (same-data d)) (n .heard-is) ∙ some-none (same-data d)))
+      noted-had = λ d k e g. absurd (true≢false (sym g ∙ ap (some (same-data d)) (n .heard-is) ∙ some-none (same-data d)));
     }
 
 pub fleet-promise : FleetPromise

@@ -43,6 +43,7 @@ set-each P d xs i x below new old j in-range = by (eqb j i) refl
   where
     short : j < length xs
     short = subst (λ n. j < n) (length-set xs i x) in-range
+
     by : (b : Bool) → eqb j i ≡ b → P (getD (set xs i x) j d) j
     by true e = let same : j ≡ i = eqb→eq j i (subst (λ b. T b) (sym e) tt) in subst (λ k. P (getD (set xs i x) k d) k) (sym same) (subst (λ y. P y i) (sym (getD-set-same xs i x d below)) new)
     by false e = let other : j ≡ i → ⊥ = λ s. absurd (subst (λ b. T b) e (subst (λ k. T (eqb j k)) s (eqb-refl j))) in subst (λ y. P y j) (sym (getD-set-other xs i j x d other)) (old j other short)
@@ -68,7 +69,7 @@ moved o s i x w v hs below f stands others judges t =
       seats-stand = λ j short. seat-else (drawn o) _ w v j (ap (λ g. g j) judges) (f .seats-stand j short);
       seats-first = f .seats-first;
       had-noted = t .had;
-      noted-had = t .noted
+      noted-had = t .noted;
     }
 
 -- the disk and the signatures that were remembered are no matter of the world
@@ -112,12 +113,14 @@ told-heard o hs heard d old = record { had = λ c n e g. drawn-news Noted heard 
   where
     Noted : ℕ → Type 0
     Noted n = (c : Data) → o .names (c .bytes) ≡ Some n → some (same-data c) (d ∷ hs) ≡ true
+
     safe : (m : Option ℕ) → o .names (d .bytes) ≡ m → Safe (λ k. (n : ℕ) → Nonce k ≡ honest n → Noted n) Any (term-by m)
     safe None e = tt
     safe (Some k) e = λ n is c f.
         let same : k ≡ n = grind arith in
         let bytes : c .bytes ≡ d .bytes = o .apart (c .bytes) (d .bytes) n f (e ∙ ap Some same) in
         some-here (same-data c) d hs (same-data-decides c d .1 (λ i. record { bytes = bytes i }))
+
     again : (c : Data) (n : ℕ) → o .names (c .bytes) ≡ Some n → (same-data c d ≡ true) ⊎ (some (same-data c) hs ≡ true) → Derives (term-of o d ∷ heard) (honest n)
     again c n e (inl is) = has (List·Memᴰ·head (sym (ap term-by (ap (λ x. o .names (x .bytes)) (sym (same-data-decides c d .0 is)) ∙ e))))
     again c n e (inr g) = derives-more (λ u m. List·Memᴰ·tail m) (old .noted c n e g)

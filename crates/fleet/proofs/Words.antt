@@ -128,7 +128,7 @@ module _ (o : Setting) (s : Sight) (j : ℕ) (w : World) (below : j < length (s 
         seats-stand = set-each (λ y k. verifier.Stands (drawn o) y v k) (new-seat (s .first)) (s .seats) j e below h (λ k other short. seat-else (drawn o) _ w v k (others k other) (f .seats-stand k short));
         seats-first = set-each (λ y k. y .first ≡ s .first) (new-seat (s .first)) (s .seats) j e below (first ∙ f .seats-first j below) (λ k other short. f .seats-first k short);
         had-noted = t .had;
-        noted-had = t .noted
+        noted-had = t .noted;
       }
 
   -- nothing changed
