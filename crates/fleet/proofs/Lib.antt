@@ -6,5 +6,6 @@ pub mod News
 pub mod Plays
 pub mod Seating
 pub mod Standing
+pub mod Stories
 pub mod Taints
 pub mod Words

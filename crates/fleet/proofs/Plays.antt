@@ -41,7 +41,7 @@ use Rattle.fleet.proofs.Acts.{machine-events}
 use Rattle.fleet.proofs.Words.{office-words, net-words, judge-falls, answer-true}
 use Rattle.fleet.proofs.Standing.{on-disk}
 
-in-range : (i n : ℕ) → ltb i n ≡ true → i < n
+pub in-range : (i n : ℕ) → ltb i n ≡ true → i < n
 in-range i n e = ltb→lt i n (subst (λ b. T b) (sym e) tt)
 
 still : (o : Setting) (s : Sight) (w : World) → FleetStands o s w → Goes o s w w
@@ -143,7 +143,7 @@ unfolding some
 some-none p = refl
 
 -- a new fleet stands for the world as it is made
-new-stands : (o : Setting) (first : Digest) (bad : List Digest) (m j : ℕ) (s : Sight) → Begins first bad m j s → Agrees o s → FleetStands o s made
+pub new-stands : (o : Setting) (first : Digest) (bad : List Digest) (m j : ℕ) (s : Sight) → Begins first bad m j s → Agrees o s → FleetStands o s made
 new-stands o start bad m j s n (first, good) =
     record {
       first-is = first;

@@ -2,6 +2,7 @@
 
 ghost use Rattle.fleet.specs.Cases.{CasesHold, Covered};
 ghost use Rattle.fleet.specs.Runs.{Plays, FleetPromise};
+ghost use Rattle.fleet.specs.Stories.{FleetStory};
 ghost use Rattle.fleet.specs.Worlds.{MachineEvents, OfficeWords, NetWords, JudgeFalls};
 
 /// Every event at a machine is matched by steps of the world.
@@ -34,6 +35,14 @@ pub fn promise_holds() -> u8
 pub fn cases_hold() -> u8
     ensures cases { λ _. ⌜ CasesHold ⌝ }
     ensures covered { λ _. ⌜ Covered ⌝ }
+{
+    0
+}
+
+/// What is reported as loaded with an acceptance had been loaded at a moment of the run, after the judge asked, at which
+/// the chip's register was the accepted row.
+pub fn story_holds() -> u8
+    ensures { λ _. ⌜ FleetStory ⌝ }
 {
     0
 }

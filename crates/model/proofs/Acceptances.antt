@@ -26,7 +26,7 @@ same-row : (s t : Term) (p r : List Digest) → statement s p ≡ statement t r 
 same-row s t p r e = cc
 
 -- whoever has the nonce of a question, at a moment of the run, has it after it was asked
-asked-by-then : {pr : Programs} {k : ℕ} {w : World} {l : Run pr k made w} (m : Moment pr l) (q : Question) → List·Memᴰ q (w .asked) → Derives (m .world .heard) (honest (q .nonce)) → List·Memᴰ q (m .world .asked)
+pub asked-by-then : {pr : Programs} {k : ℕ} {w : World} {l : Run pr k made w} (m : Moment pr l) (q : Question) → List·Memᴰ q (w .asked) → Derives (m .world .heard) (honest (q .nonce)) → List·Memᴰ q (m .world .asked)
 asked-by-then {pr} {w = w} {l = l} m q asked d = go (knows (m .reached) .draws .purpose (q .nonce)) refl (known-safe (knows (m .reached)) d (q .nonce) refl)
   where
     until : (j : ℕ) × Run pr j (m .world) w

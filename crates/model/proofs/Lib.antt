@@ -3,12 +3,12 @@ pub mod Places
 pub mod Knowledge
 mod Machines
 pub mod History
-mod Judges
+pub mod Judges
 pub mod Moments
 mod Draws
-mod Secrets
+pub mod Secrets
 mod Secrecy
-mod Acceptances
+pub mod Acceptances
 mod Openings
 mod Liveness
 pub mod Main
