@@ -18,7 +18,9 @@ use Rattle.model.proofs.Main.{main}
 use Rattle.model.proofs.Moments.{join}
 use Rattle.device.specs.declared.digests.Data.{Data}
 use Rattle.device.specs.declared.digests.Digest.{Digest}
+use Rattle.device.specs.declared.registers.Register.{Register}
 use Rattle.verifier.specs.declared.judges.Reply.{Reply}
+use Rattle.verifier.specs.declared.judges.Said.{Said}
 use Rattle.verifier.specs.declared.judges.Word.{Word}
 use Rattle.verifier.specs.declared.judges.Word.the-variants as word
 use Rattle.verifier.specs.Searches.{some}
@@ -34,14 +36,14 @@ use Rattle.fleet.specs.Sights.{Sight, found, machine-at, seat-at, with-seat, a
 use Rattle.fleet.specs.declared.fleets.Report.{Report}
 use Rattle.fleet.specs.declared.fleets.Report.the-variants.{Done, Nobody, NoMemory}
 use Rattle.fleet.specs.Worlds.{Setting, drawn, FleetStands, ActAllowed, WordAllowed, after-word, after-net, Goes}
-use Rattle.verifier.specs.Seats.{Seat, new-seat, office-of, net-of}
-use Rattle.fleet.specs.Runs.{Allowed, after-at, after, Plays, Happening, next, Ran, Ready, final, word-claim, Claim, Claims, Agrees, Kept, PlaySteps, Tells, FleetPromise}
+use Rattle.verifier.specs.Seats.{Seat, new-seat, answer-of, office-of, net-of}
+use Rattle.fleet.specs.Runs.{Allowed, after-at, after, Plays, Happening, next, Ran, Ready, final, of-accepted, of-word, of-event, Claim, Claims, Agrees, Kept, PlaySteps, Tells, FleetPromise}
 use Rattle.fleet.specs.Makes.{Begins}
 use Rattle.fleet.proofs.Acts.{machine-events}
 use Rattle.fleet.proofs.Words.{office-words, net-words, judge-falls, answer-true}
 use Rattle.fleet.proofs.Standing.{on-disk}
 
-pub in-range : (i n : ℕ) → ltb i n ≡ true → i < n
+in-range : (i n : ℕ) → ltb i n ≡ true → i < n
 in-range i n e = ltb→lt i n (subst (λ b. T b) (sym e) tt)
 
 still : (o : Setting) (s : Sight) (w : World) → FleetStands o s w → Goes o s w w
@@ -75,47 +77,51 @@ plays o m s Wipe ds w h f = still o _ w (on-disk [] f)
 
 -- ---- what was reported is true
 
-word-true : (o : Setting) (s : Sight) (j : ℕ) (x : Word) (ds : List Digest) (q : Option Data) (w : World) → j < length (s .seats) → FleetStands o s w → WordAllowed o x (office-of true (seat-at s j) x ds q .1) w → {k : ℕ} (l : Run (o .programs) k made w) → word-claim o j x (judged j s x (office-of true (seat-at s j) x ds q) .1) l
-word-true o s j (word.Ask a) ds q w below f h l = tt
-word-true o s j (word.List n) ds q w below f h l = tt
-word-true o s j word.Good ds q w below f h l = tt
-word-true o s j (word.Chip a) ds q w below f h l = tt
-word-true o s j (word.Ticks n) ds q w below f h l = tt
-word-true o s j (word.Answer p) ds q w below f h l = answer-true o s j w below f p _ refl h l
+-- where no judge answered, nothing is claimed
+none-claimed : (x : Word) (P : Reply → Register → Option Register → Type 0) → of-word x Nobody P × of-word x NoMemory P
+none-claimed (word.Ask a) P = (tt, tt)
+none-claimed (word.List n) P = (tt, tt)
+none-claimed word.Good P = (tt, tt)
+none-claimed (word.Chip a) P = (tt, tt)
+none-claimed (word.Ticks n) P = (tt, tt)
+none-claimed (word.Answer p) P = (tt, tt)
 
-net-true : (o : Setting) (s : Sight) (j : ℕ) (x : Word) (w : World) → j < length (s .seats) → FleetStands o s w → WordAllowed o x (net-of (seat-at s j) x .1) w → {k : ℕ} (l : Run (o .programs) k made w) → word-claim o j x (judged j s x (net-of (seat-at s j) x) .1) l
-net-true o s j (word.Ask a) w below f h l = tt
-net-true o s j (word.List n) w below f h l = tt
-net-true o s j word.Good w below f h l = tt
-net-true o s j (word.Chip a) w below f h l = tt
-net-true o s j (word.Ticks n) w below f h l = tt
-net-true o s j (word.Answer p) w below f h l = answer-true o s j w below f p _ refl h l
-
--- a judge that is not there, or that found no memory, accepts nothing
-none-claimed : (o : Setting) (j : ℕ) (x : Word) {k : ℕ} {w : World} (l : Run (o .programs) k made w) → word-claim o j x Nobody l × word-claim o j x NoMemory l
-none-claimed o j (word.Ask a) l = (tt, tt)
-none-claimed o j (word.List n) l = (tt, tt)
-none-claimed o j word.Good l = (tt, tt)
-none-claimed o j (word.Chip a) l = (tt, tt)
-none-claimed o j (word.Ticks n) l = (tt, tt)
-none-claimed o j (word.Answer p) l = (tt, tt)
-
-claimed : (o : Setting) (m : Bool) (s : Sight) (e : Event) (ds : List Digest) (w : World) → Allowed o m s e ds w → FleetStands o s w → {k : ℕ} (l : Run (o .programs) k made w) → Claim o e (played m s e ds .1) l
-claimed o m s (At i a) ds w h f l = tt
-claimed o m s (Office j x q) ds w h f l = by (ltb j (length (s .seats))) refl m h
+-- what holds of every answer that a judge accepts holds of every acceptance that is reported
+pub claimed : (o : Setting) (m : Bool) (s : Sight) (e : Event) (ds : List Digest) (w : World) (P : ℕ → Reply → Register → Option Register → Type 0) → ((j : ℕ) → j < length (s .seats) → (p : Reply) (r : Seat × Said) → r ≡ answer-of (seat-at s j) p → WordAllowed o (word.Answer p) (r .1) w → of-accepted (judged j s (word.Answer p) r .1) (P j p)) → Allowed o m s e ds w → of-event e (played m s e ds .1) P
+claimed o m s (At i a) ds w P answers h = tt
+claimed o m s (Office j x q) ds w P answers h = by (ltb j (length (s .seats))) refl m h
   where
-    by : (b : Bool) → ltb j (length (s .seats)) ≡ b → (m : Bool) → (b ≡ true → m ≡ true → WordAllowed o x (office-of true (seat-at s j) x ds q .1) w) → word-claim o j x (cond b (cond m (judged j s x (office-of true (seat-at s j) x ds q)) (s, NoMemory)) (s, Nobody) .1) l
-    by true e true g = word-true o s j x ds q w (in-range j _ e) f (g refl refl) l
-    by true e false g = none-claimed o j x l .1
-    by false e n g = none-claimed o j x l .0
-claimed o m s (Net j x) ds w h f l = by (ltb j (length (s .seats))) refl h
+    word-true : (x : Word) → j < length (s .seats) → WordAllowed o x (office-of true (seat-at s j) x ds q .1) w → of-word x (judged j s x (office-of true (seat-at s j) x ds q) .1) (P j)
+    word-true (word.Ask a) below g = tt
+    word-true (word.List n) below g = tt
+    word-true word.Good below g = tt
+    word-true (word.Chip a) below g = tt
+    word-true (word.Ticks n) below g = tt
+    word-true (word.Answer p) below g = answers j below p _ refl g
+
+    by : (b : Bool) → ltb j (length (s .seats)) ≡ b → (m : Bool) → (b ≡ true → m ≡ true → WordAllowed o x (office-of true (seat-at s j) x ds q .1) w) → of-word x (cond b (cond m (judged j s x (office-of true (seat-at s j) x ds q)) (s, NoMemory)) (s, Nobody) .1) (P j)
+    by true e true g = word-true x (in-range j _ e) (g refl refl)
+    by true e false g = none-claimed x (P j) .1
+    by false e n g = none-claimed x (P j) .0
+claimed o m s (Net j x) ds w P answers h = by (ltb j (length (s .seats))) refl h
   where
-    by : (b : Bool) → ltb j (length (s .seats)) ≡ b → (b ≡ true → WordAllowed o x (net-of (seat-at s j) x .1) w) → word-claim o j x (cond b (judged j s x (net-of (seat-at s j) x)) (s, Nobody) .1) l
-    by true e g = net-true o s j x w (in-range j _ e) f (g refl) l
-    by false e g = none-claimed o j x l .0
-claimed o m s (Fall j) ds w h f l = tt
-claimed o m s (Write n g k) ds w h f l = tt
-claimed o m s Wipe ds w h f l = tt
+    word-true : (x : Word) → j < length (s .seats) → WordAllowed o x (net-of (seat-at s j) x .1) w → of-word x (judged j s x (net-of (seat-at s j) x) .1) (P j)
+    word-true (word.Ask a) below g = tt
+    word-true (word.List n) below g = tt
+    word-true word.Good below g = tt
+    word-true (word.Chip a) below g = tt
+    word-true (word.Ticks n) below g = tt
+    word-true (word.Answer p) below g = answers j below p _ refl g
+
+    by : (b : Bool) → ltb j (length (s .seats)) ≡ b → (b ≡ true → WordAllowed o x (net-of (seat-at s j) x .1) w) → of-word x (cond b (judged j s x (net-of (seat-at s j) x)) (s, Nobody) .1) (P j)
+    by true e g = word-true x (in-range j _ e) (g refl)
+    by false e g = none-claimed x (P j) .0
+claimed o m s (Fall j) ds w P answers h = tt
+claimed o m s (Write n g k) ds w P answers h = tt
+claimed o m s Wipe ds w P answers h = tt
+
+judged-claimed : (o : Setting) (m : Bool) (s : Sight) (e : Event) (ds : List Digest) (w : World) → Allowed o m s e ds w → FleetStands o s w → {k : ℕ} (l : Run (o .programs) k made w) → Claim o e (played m s e ds .1) l
+judged-claimed o m s e ds w h f l = claimed o m s e ds w _ (λ j below p r is g. answer-true o s j w below f p r is g l) h
 
 -- ---- over any sequence of events
 
@@ -132,7 +138,7 @@ held o s t (p ∷ ps) w f (r, rs) h = more (plays o (found (p .report)) s (p .ev
     more : (g : Goes o (next s p) w (after o (found (p .report)) s (p .event) (p .digests) w (h .0))) → ((g : Goes o (next s p) w (after o (found (p .report)) s (p .event) (p .digests) w (h .0))) → Held o (next s p) ps t (after o (found (p .report)) s (p .event) (p .digests) w (h .0)) (h .1)) → Held o s (p ∷ ps) t w h
     more g rest =
         let k = rest g in
-        record { steps = g .steps + k .steps; run = join (g .run) (k .run); stands = k .stands; claims = ((λ n l. subst (λ z. Claim o (p .event) z l) (sym r) (claimed o (found (p .report)) s (p .event) (p .digests) w (h .0) f l)), k .claims) }
+        record { steps = g .steps + k .steps; run = join (g .run) (k .run); stands = k .stands; claims = ((λ n l. subst (λ z. Claim o (p .event) z l) (sym r) (judged-claimed o (found (p .report)) s (p .event) (p .digests) w (h .0) f l)), k .claims) }
 
 -- where nothing was said, no drawn number is had
 nothing-derived : (k : ℕ) → Derives [] (effect.honest k) → ⊥
@@ -166,4 +172,4 @@ pub play-steps : (s : Sight) (e : Event) (ds : List Digest) (q : Sight × Report
 play-steps s e ds q is o w h f = subst (λ t. Goes o (t .0) w (after o (found (q .1)) s e ds w h)) (sym is) (plays o (found (q .1)) s e ds w h f)
 
 pub tells : (s : Sight) (e : Event) (ds : List Digest) (q : Sight × Report) → q ≡ played (found (q .1)) s e ds → Tells s e ds q
-tells s e ds q is o w h f k l = subst (λ t. Claim o e (t .1) l) (sym is) (claimed o (found (q .1)) s e ds w h f l)
+tells s e ds q is o w h f k l = subst (λ t. Claim o e (t .1) l) (sym is) (judged-claimed o (found (q .1)) s e ds w h f l)

@@ -55,9 +55,9 @@ use Rattle.fleet.specs.declared.fleets.Report.the-variants.{Done, Nobody, NoMe
 use Rattle.fleet.specs.declared.fleets.Shown.{Shown}
 use Rattle.fleet.specs.Sights.{Sight, tainted, same-signature, ran-of, shown-by, opening-told, running, given, acted, judged, machine-at, seat-at, found, played}
 use Rattle.fleet.specs.Worlds.{Setting, term-by, nonce-by, term-of, drawn, FleetStands, WordAllowed, Goes}
-use Rattle.fleet.specs.Runs.{Allowed, after, Happening, next, Ran, Ready}
-use Rattle.fleet.specs.Stories.{longer, Really, ran-claim, word-really, RanClaim, Story, FleetStory}
-use Rattle.fleet.proofs.Plays.{in-range, plays, new-stands}
+use Rattle.fleet.specs.Runs.{Allowed, after, Happening, next, Ran, Ready, of-accepted}
+use Rattle.fleet.specs.Stories.{longer, Really, ran-claim, RanClaim, Story, FleetStory}
+use Rattle.fleet.proofs.Plays.{plays, claimed, new-stands}
 
 -- ---- only a signature is remembered
 
@@ -197,7 +197,7 @@ three true true false e = absurd (true≢false (sym e))
 three true false c e = absurd (true≢false (sym e))
 three false b c e = absurd (true≢false (sym e))
 
-answer-really : (o : Setting) (s : Sight) (j : ℕ) (w : World) → j < length (s .seats) → FleetStands o s w → (p : Reply) (r : Seat × Said) → r ≡ answer-of (seat-at s j) p → WordAllowed o (word.Answer p) (r .1) w → {k : ℕ} (l : Run (o .programs) k made w) → Remembers o s l → word-really o j (word.Answer p) (judged j s (word.Answer p) r .1) l
+answer-really : (o : Setting) (s : Sight) (j : ℕ) (w : World) → j < length (s .seats) → FleetStands o s w → (p : Reply) (r : Seat × Said) → r ≡ answer-of (seat-at s j) p → WordAllowed o (word.Answer p) (r .1) w → {k : ℕ} (l : Run (o .programs) k made w) → Remembers o s l → of-accepted (judged j s (word.Answer p) r .1) (λ row ran. ran-claim ran (λ x. Really o j p row x l))
 answer-really o s j w below f p (e, said.Done) is h l old = tt
 answer-really o s j w below f p (e, said.Asks b c) is h l old = tt
 answer-really o s j w below f p (e, said.Refused k) is h l old = tt
@@ -230,47 +230,8 @@ answer-really o s j w below f p (e, said.Accepted n row g) is h l old = by (seek
 
 -- ---- along the run
 
-word-true : (o : Setting) (s : Sight) (j : ℕ) (x : Word) (ds : List Digest) (q : Option Data) (w : World) → j < length (s .seats) → FleetStands o s w → WordAllowed o x (office-of true (seat-at s j) x ds q .1) w → {k : ℕ} (l : Run (o .programs) k made w) → Remembers o s l → word-really o j x (judged j s x (office-of true (seat-at s j) x ds q) .1) l
-word-true o s j (word.Ask a) ds q w below f h l old = tt
-word-true o s j (word.List n) ds q w below f h l old = tt
-word-true o s j word.Good ds q w below f h l old = tt
-word-true o s j (word.Chip a) ds q w below f h l old = tt
-word-true o s j (word.Ticks n) ds q w below f h l old = tt
-word-true o s j (word.Answer p) ds q w below f h l old = answer-really o s j w below f p _ refl h l old
-
-net-true : (o : Setting) (s : Sight) (j : ℕ) (x : Word) (w : World) → j < length (s .seats) → FleetStands o s w → WordAllowed o x (net-of (seat-at s j) x .1) w → {k : ℕ} (l : Run (o .programs) k made w) → Remembers o s l → word-really o j x (judged j s x (net-of (seat-at s j) x) .1) l
-net-true o s j (word.Ask a) w below f h l old = tt
-net-true o s j (word.List n) w below f h l old = tt
-net-true o s j word.Good w below f h l old = tt
-net-true o s j (word.Chip a) w below f h l old = tt
-net-true o s j (word.Ticks n) w below f h l old = tt
-net-true o s j (word.Answer p) w below f h l old = answer-really o s j w below f p _ refl h l old
-
--- a judge that is not there, or that found no memory, accepts nothing
-none-claimed : (o : Setting) (j : ℕ) (x : Word) {k : ℕ} {w : World} (l : Run (o .programs) k made w) → word-really o j x Nobody l × word-really o j x NoMemory l
-none-claimed o j (word.Ask a) l = (tt, tt)
-none-claimed o j (word.List n) l = (tt, tt)
-none-claimed o j word.Good l = (tt, tt)
-none-claimed o j (word.Chip a) l = (tt, tt)
-none-claimed o j (word.Ticks n) l = (tt, tt)
-none-claimed o j (word.Answer p) l = (tt, tt)
-
 ran-claimed : (o : Setting) (m : Bool) (s : Sight) (e : Event) (ds : List Digest) (w : World) → Allowed o m s e ds w → FleetStands o s w → {k : ℕ} (l : Run (o .programs) k made w) → Remembers o s l → RanClaim o e (played m s e ds .1) l
-ran-claimed o m s (At i a) ds w h f l old = tt
-ran-claimed o m s (Office j x q) ds w h f l old = by (ltb j (length (s .seats))) refl m h
-  where
-    by : (b : Bool) → ltb j (length (s .seats)) ≡ b → (m : Bool) → (b ≡ true → m ≡ true → WordAllowed o x (office-of true (seat-at s j) x ds q .1) w) → word-really o j x (cond b (cond m (judged j s x (office-of true (seat-at s j) x ds q)) (s, NoMemory)) (s, Nobody) .1) l
-    by true e true g = word-true o s j x ds q w (in-range j _ e) f (g refl refl) l old
-    by true e false g = none-claimed o j x l .1
-    by false e n g = none-claimed o j x l .0
-ran-claimed o m s (Net j x) ds w h f l old = by (ltb j (length (s .seats))) refl h
-  where
-    by : (b : Bool) → ltb j (length (s .seats)) ≡ b → (b ≡ true → WordAllowed o x (net-of (seat-at s j) x .1) w) → word-really o j x (cond b (judged j s x (net-of (seat-at s j) x)) (s, Nobody) .1) l
-    by true e g = net-true o s j x w (in-range j _ e) f (g refl) l old
-    by false e g = none-claimed o j x l .0
-ran-claimed o m s (Fall j) ds w h f l old = tt
-ran-claimed o m s (Write n g k) ds w h f l old = tt
-ran-claimed o m s Wipe ds w h f l old = tt
+ran-claimed o m s e ds w h f l old = claimed o m s e ds w _ (λ j below p r is g. answer-really o s j w below f p r is g l old) h
 
 story : (o : Setting) (s t : Sight) (ps : List Happening) (w : World) {k : ℕ} (l : Run (o .programs) k made w) → FleetStands o s w → Remembers o s l → Ran s ps t → (h : Ready o s ps w) → Story o s ps w l h
 story o s t [] w l f old r h = tt

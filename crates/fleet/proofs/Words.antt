@@ -18,7 +18,8 @@ use Rattle.model.specs.Effect.{made, on-judge, honest}
 use Rattle.model.specs.Promise.{OneMore, Judged}
 use Rattle.model.proofs.Main.{main}
 use mathlib.Core.Logic.{inl, inr}
-use Rattle.fleet.specs.Runs.{word-claim}
+use Rattle.fleet.specs.Runs.{of-accepted}
+use Rattle.verifier.specs.Worlds.{question-of}
 use Rattle.model.specs.Step as step
 use Rattle.model.specs.Run.{Run, here, onward}
 use Rattle.model.proofs.Places.{at-same, at-other}
@@ -39,7 +40,7 @@ use Rattle.verifier.specs.declared.judges.List as list
 use Rattle.verifier.specs.Ages.{aged}
 use Rattle.verifier.specs.Rows.{gathered}
 use Rattle.verifier.specs.Searches.{some, seek, place, has-number, asks}
-use Rattle.verifier.specs.Seats.{Seat, new-seat, with-questions, begins, signs, list-by, ask-by, answer-by, answer-at, answer-of, office-of, net-of}
+use Rattle.verifier.specs.Seats.{Seat, new-seat, new-question, with-questions, begins, signs, list-by, ask-by, answer-by, answer-at, answer-of, office-of, net-of}
 use Rattle.verifier.specs.Worlds as verifier
 use Rattle.verifier.proofs.Worlds as judges
 use Rattle.verifier.proofs.Refusals as idle
@@ -217,7 +218,7 @@ added : {pr : Programs} {k : ℕ} {w : World} (l : Run pr k made w) (c : world.A
 added {w = w} l c (inl e) is = absurd (longer c (w .accepted) (sym is ∙ e))
 added {pr} l c (inr (z, e, j)) is = let same : z ≡ c = cc in subst (λ y. Judged pr l y) same j
 
-pub answer-true : (o : Setting) (s : Sight) (j : ℕ) (w : World) → j < length (s .seats) → FleetStands o s w → (p : Reply) (r : Seat × Said) → r ≡ answer-of (seat-at s j) p → WordAllowed o (word.Answer p) (r .1) w → {k : ℕ} (l : Run (o .programs) k made w) → word-claim o j (word.Answer p) (judged j s (word.Answer p) r .1) l
+pub answer-true : (o : Setting) (s : Sight) (j : ℕ) (w : World) → j < length (s .seats) → FleetStands o s w → (p : Reply) (r : Seat × Said) → r ≡ answer-of (seat-at s j) p → WordAllowed o (word.Answer p) (r .1) w → {k : ℕ} (l : Run (o .programs) k made w) → of-accepted (judged j s (word.Answer p) r .1) (λ row _. Judged (o .programs) l (effect.acceptance (question-of (drawn o) j (new-question (p .chip) (p .«data»))) (words row)))
 answer-true o s j w below f p (e, said.Done) is h l = tt
 answer-true o s j w below f p (e, said.Asks b c) is h l = tt
 answer-true o s j w below f p (e, said.Accepted n r g) is h {k} l =

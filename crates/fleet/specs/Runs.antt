@@ -89,10 +89,10 @@ abbrev pub final : (o : Setting) (s : Sight) (ps : List Happening) (w : World) �
 final o s [] w h = w
 final o s (p ∷ ps) w h = final o (next s p) ps (after o (found (p .report)) s (p .event) (p .digests) w (h .0)) (h .1)
 
--- ---- what a report claims, of every run of steps l that leads to the world in which the event came
+-- ---- what a report claims
 
--- of the row that was accepted
-abbrev pub of-accepted : Report → (Register → Type 0) → Type 0
+-- P of the row that was accepted, and of what was reported as loaded
+abbrev pub of-accepted : Report → (Register → Option Register → Type 0) → Type 0
 of-accepted Done P = Unit {0}
 of-accepted (Refused k) P = Unit {0}
 of-accepted Unwilling P = Unit {0}
@@ -100,24 +100,28 @@ of-accepted Nobody P = Unit {0}
 of-accepted NoMemory P = Unit {0}
 of-accepted (Answered a) P = Unit {0}
 of-accepted (Told x) P = Unit {0}
-of-accepted (Accepted n r f q) P = P r
+of-accepted (Accepted n r f q) P = P r q
 
--- the judge had this question open, knew the chip and had the row, which was the chip's at a moment of l after the judge asked; and if all in it are good, just these had been loaded
-abbrev pub word-claim : (o : Setting) → ℕ → Word → Report → {k : ℕ} {w : World} → Run (o .programs) k made w → Type 0
-word-claim o j (word.Ask a) r l = Unit {0}
-word-claim o j (word.List n) r l = Unit {0}
-word-claim o j word.Good r l = Unit {0}
-word-claim o j (word.Chip a) r l = Unit {0}
-word-claim o j (word.Ticks n) r l = Unit {0}
-word-claim o j (word.Answer p) r l = of-accepted r (λ row. Judged (o .programs) l (effect.acceptance (question-of (drawn o) j (new-question (p .chip) (p .«data»))) (words row)))
+abbrev pub of-word : Word → Report → (Reply → Register → Option Register → Type 0) → Type 0
+of-word (word.Ask a) r P = Unit {0}
+of-word (word.List n) r P = Unit {0}
+of-word word.Good r P = Unit {0}
+of-word (word.Chip a) r P = Unit {0}
+of-word (word.Ticks n) r P = Unit {0}
+of-word (word.Answer p) r P = of-accepted r (P p)
 
+-- P of each acceptance: the judge, what it was brought, the row, and what was reported as loaded
+abbrev pub of-event : Event → Report → (ℕ → Reply → Register → Option Register → Type 0) → Type 0
+of-event (At i a) r P = Unit {0}
+of-event (Office j x q) r P = of-word x r (P j)
+of-event (Net j x) r P = of-word x r (P j)
+of-event (Fall j) r P = Unit {0}
+of-event (Write n f g) r P = Unit {0}
+of-event Wipe r P = Unit {0}
+
+-- of every run of steps l that leads to the world in which the event came: the judge had this question open, knew the chip and had the row, which was the chip's at a moment of l after the judge asked; and if all in it are good, just these had been loaded
 abbrev pub Claim : (o : Setting) → Event → Report → {k : ℕ} {w : World} → Run (o .programs) k made w → Type 0
-Claim o (At i a) r l = Unit {0}
-Claim o (Office j x q) r l = word-claim o j x r l
-Claim o (Net j x) r l = word-claim o j x r l
-Claim o (Fall j) r l = Unit {0}
-Claim o (Write n f g) r l = Unit {0}
-Claim o Wipe r l = Unit {0}
+Claim o e r l = of-event e r (λ j p row _. Judged (o .programs) l (effect.acceptance (question-of (drawn o) j (new-question (p .chip) (p .«data»))) (words row)))
 
 -- what one call reports is true
 abbrev pub Tells : Sight → Event → List Digest → Sight × Report → Type 0

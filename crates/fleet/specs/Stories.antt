@@ -12,19 +12,15 @@ use Rattle.device.specs.declared.digests.Digest.{Digest}
 use Rattle.device.specs.declared.registers.Register.{Register}
 use Rattle.device.specs.Rows.{words}
 use Rattle.verifier.specs.declared.judges.Reply.{Reply}
-use Rattle.verifier.specs.declared.judges.Word.{Word}
-use Rattle.verifier.specs.declared.judges.Word.the-variants as word
 use Rattle.verifier.specs.Seats.{new-question}
 use Rattle.verifier.specs.Worlds.{question-of}
 use Rattle.fleet.specs.declared.fleets.Event.{Event}
-use Rattle.fleet.specs.declared.fleets.Event.the-variants.{At, Office, Net, Fall, Write, Wipe}
 use Rattle.fleet.specs.declared.fleets.Report.{Report}
-use Rattle.fleet.specs.declared.fleets.Report.the-variants.{Done, Refused, Unwilling, Nobody, NoMemory, Answered, Told, Accepted}
 use Rattle.fleet.specs.declared.fleets.Shown.{Shown}
 use Rattle.fleet.specs.Makes.{Begins}
 use Rattle.fleet.specs.Sights.{Sight, found}
 use Rattle.fleet.specs.Worlds.{Setting, term-of, drawn, Goes}
-use Rattle.fleet.specs.Runs.{Happening, next, after, Ran, Ready, Agrees}
+use Rattle.fleet.specs.Runs.{Happening, next, after, Ran, Ready, of-event, Agrees}
 
 -- the run l, and then these steps
 abbrev pub longer : {pr : Programs} {k : ℕ} {w : World} → Run pr k made w → {j : ℕ} {v : World} → Run pr j w v → (n : ℕ) × Run pr n made v
@@ -42,31 +38,8 @@ abbrev pub ran-claim : Option Register → (Register → Type 0) → Type 0
 ran-claim None P = Unit {0}
 ran-claim (Some r) P = P r
 
-abbrev pub accepted-claim : Report → (Register → Register → Type 0) → Type 0
-accepted-claim Done P = Unit {0}
-accepted-claim (Refused k) P = Unit {0}
-accepted-claim Unwilling P = Unit {0}
-accepted-claim Nobody P = Unit {0}
-accepted-claim NoMemory P = Unit {0}
-accepted-claim (Answered a) P = Unit {0}
-accepted-claim (Told x) P = Unit {0}
-accepted-claim (Accepted n r f q) P = ran-claim q (P r)
-
-abbrev pub word-really : (o : Setting) → ℕ → Word → Report → {k : ℕ} {w : World} → Run (o .programs) k made w → Type 0
-word-really o j (word.Ask a) r l = Unit {0}
-word-really o j (word.List n) r l = Unit {0}
-word-really o j word.Good r l = Unit {0}
-word-really o j (word.Chip a) r l = Unit {0}
-word-really o j (word.Ticks n) r l = Unit {0}
-word-really o j (word.Answer p) r l = accepted-claim r (λ row ran. Really o j p row ran l)
-
 abbrev pub RanClaim : (o : Setting) → Event → Report → {k : ℕ} {w : World} → Run (o .programs) k made w → Type 0
-RanClaim o (At i a) r l = Unit {0}
-RanClaim o (Office j x q) r l = word-really o j x r l
-RanClaim o (Net j x) r l = word-really o j x r l
-RanClaim o (Fall j) r l = Unit {0}
-RanClaim o (Write n f g) r l = Unit {0}
-RanClaim o Wipe r l = Unit {0}
+RanClaim o e r l = of-event e r (λ j p row ran. ran-claim ran (λ x. Really o j p row x l))
 
 -- l leads to the world before the first of these events; each goes on from there
 abbrev pub Story : (o : Setting) (s : Sight) (ps : List Happening) (w : World) {k : ℕ} (l : Run (o .programs) k made w) → Ready o s ps w → Type 0
