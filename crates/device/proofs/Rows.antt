@@ -1,5 +1,5 @@
 -- Registers are told apart by their rows.
-use Rattle.std.proofs.Common.{◌≡◌, ℕ, ◌+◌, ◌<◌, ◌≤◌, Bool, true, false, ◌&&◌, T, ltb, List, [], ◌∷◌, ◌++◌, map, reverse, length, get_or, take, set, Some, None, Decides, Option, sym, refl, ap, ◌∙◌, subst, arith, ltb→lt}
+use Rattle.std.proofs.Common.{◌≡◌, ℕ, ◌+◌, ◌<◌, ◌≤◌, Bool, true, false, ◌&&◌, T, ltb, List, [], ◌∷◌, map, reverse, length, get_or, set, Some, None, Decides, sym, refl, ap, ◌∙◌, subst, arith, ltb→lt}
 use mathlib.Core.HLevel.{is_prop→PathP}
 use mathlib.Core.List.{reverse-append}
 use native.Mathlib.Nat.{ℕ_set}
@@ -9,15 +9,15 @@ use Rattle.std.proofs.lemmas.Slice.Eq.{bytes_eq-Decides}
 use Rattle.std.proofs.lemmas.List.{take_more_set, reverse-reverse, length-take-le, length-reverse, length-map, get_or-take}
 use Rattle.std.proofs.lemmas.Option.{slice_get-get_or, slice_get_past}
 use Rattle.std.specs.List.{slice_get}
-use Rattle.std.proofs.lemmas.Bool.Decides.{same_from_decides, Decides-and, nat_tests}
+use Rattle.std.proofs.lemmas.Bool.Decides.{Decides-and, nat_tests}
 use Rattle.device.specs.declared.digests.Digest.{Digest}
 use Rattle.device.specs.declared.registers.Register.{Register}
-use Rattle.device.specs.Rows.{row, words, pushed, pushed_at, same_digests, same_row}
+use Rattle.device.specs.Rows.{row, words, pushed, pushed_at, same_digests}
 
 pub register_is : (r s : Register) → r.digests ≡ s.digests → r.len ≡ s.len → r ≡ s
 register_is r s d l = λ i. record { digests = d i; len = l i; long = is_prop→PathP (λ i. length (d i) ≡ 16) (λ i. ℕ_set (length (d i)) 16) r.long s.long i; fits = is_prop→PathP (λ i. l i ≤ 16) (λ i. le_prop) r.fits s.fits i }
 
-digest_is : (d e : Digest) → Decides (bytes_eq d.bytes e.bytes) (d ≡ e)
+pub digest_is : (d e : Digest) → Decides (bytes_eq d.bytes e.bytes) (d ≡ e)
 digest_is d e = let h = bytes_eq-Decides d.bytes e.bytes in ((λ t. λ i. record { bytes = h.0 t i }), λ p. h.1 (ap (λ x. x.bytes) p))
 
 pub same_digests_decides : (ds es : List Digest) → Decides (same_digests ds es) (ds ≡ es)

@@ -1,5 +1,5 @@
 -- The tests on things decide what they say.
-use Rattle.std.proofs.Common.{◌≡◌, ℕ, Bool, true, false, ◌&&◌, eqb, List, Decides, sym, refl, ap, ◌∙◌, subst, arith}
+use Rattle.std.proofs.Common.{◌≡◌, Decides, ap}
 use Rattle.std.proofs.lemmas.Slice.Eq.{bytes_eq-Decides}
 use Rattle.device.specs.declared.digests.Data.{Data}
 use Rattle.device.specs.Things.{same_data}

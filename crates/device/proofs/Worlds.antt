@@ -1,5 +1,5 @@
 -- Each command is the step that it says, of every world for which the chip stands.
-use Rattle.std.proofs.Common.{◌≡◌, ℕ, suc, ◌+◌, ◌^◌, Bool, true, false, cond, ◌&&◌, eqb, ltb, List, [], ◌∷◌, map, reverse, Some, None, Option, sym, refl, ap, ◌∙◌, subst, true≢false, add-one, arith}
+use Rattle.std.proofs.Common.{◌≡◌, ℕ, suc, ◌+◌, ◌^◌, Bool, true, false, cond, eqb, ltb, List, ◌∷◌, map, reverse, Some, None, Option, sym, refl, ap, ◌∙◌, subst, true≢false, add-one, arith}
 use mathlib.Core.List.{Memᴰ}
 use Rattle.std.proofs.lemmas.Bool.Decides.{nat_tests}
 use Rattle.model.specs.Term as term
@@ -13,20 +13,19 @@ use Rattle.device.specs.declared.chips.Chip.{Chip}
 use Rattle.device.specs.declared.chips.Command.{Command}
 use Rattle.device.specs.declared.chips.Command.TheVariants.{Put, Sign, Count, Close, Open, Read, SwitchedOn}
 use Rattle.device.specs.declared.chips.Answer.{Answer}
-use Rattle.device.specs.declared.chips.Answer.TheVariants.{Done, Signed, Counter, Closed, Opened, Now, Refused}
+use Rattle.device.specs.declared.chips.Answer.TheVariants.{Counter, Closed, Opened}
 use Rattle.device.specs.declared.chips.Target.{Target}
 use Rattle.device.specs.declared.chips.Target.TheVariants.{Row, Nowhere}
-use Rattle.device.specs.declared.chips.Content.{Content}
 use Rattle.device.specs.declared.chips.Thing.{Thing}
 use Rattle.device.specs.declared.digests.Data.{Data}
 use Rattle.device.specs.declared.digests.Digest.{Digest}
 use Rattle.device.specs.declared.refusals.Refusal.{Refusal}
-use Rattle.device.specs.declared.refusals.Refusal.TheVariants.{Full, Malformed, BadSeal, OtherRow, OtherCounter, UsedUp}
+use Rattle.device.specs.declared.refusals.Refusal.TheVariants.{Full, BadSeal, OtherRow, OtherCounter, UsedUp}
 use Rattle.device.specs.declared.registers.Register.{Register}
-use Rattle.device.specs.Rows.{words, pushed, same_row}
+use Rattle.device.specs.Rows.{words, pushed}
 use Rattle.device.specs.Things.{is_row, sealed_by_of}
 use Rattle.device.specs.Commands.{refused, put_by, put_of, signed, counted, content, sealed, closed, opened, switched, answered}
-use Rattle.device.specs.Worlds.{Like, Stands, Moves, target_of, Holds, Switches, Puts, Signs, Counts, Closes, Opens, Steps, Refuses}
+use Rattle.device.specs.Worlds.{Like, Stands, target_of, Holds, Switches, Puts, Signs, Counts, Closes, Opens, Steps, Refuses}
 use Rattle.device.proofs.Rows.{words_more, same_digests_decides, same_words}
 
 -- a machine that was changed at one place: the chip stands for it there

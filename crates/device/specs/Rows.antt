@@ -1,5 +1,5 @@
 -- Rows of digests: what a register holds.
-use Rattle.std.specs.Prelude.{◌≡◌, ℕ, ◌+◌, ◌<◌, ◌≤◌, Bool, true, false, ◌&&◌, T, List, [], ◌∷◌, map, reverse, length, take, replicate, Some, None, Option, nat_lt, slice_set, refl}
+use Rattle.std.specs.Prelude.{◌≡◌, ◌+◌, ◌<◌, ◌≤◌, Bool, true, false, ◌&&◌, T, List, [], ◌∷◌, map, reverse, length, take, replicate, Some, None, Option, nat_lt, slice_set, refl}
 use Rattle.std.proofs.Common.{sym, subst, ◌∙◌, arith, ltb→lt, lit≤, length-set}
 use Rattle.std.specs.Str.{bytes_eq}
 use Rattle.model.specs.Term as term

@@ -11,7 +11,7 @@ use Rattle.device.specs.declared.chips.Chip.{Chip}
 use Rattle.device.specs.declared.chips.Command.{Command}
 use Rattle.device.specs.declared.chips.Command.TheVariants.{Put, Sign, Count, Close, Open, Read, SwitchedOn}
 use Rattle.device.specs.declared.chips.Answer.{Answer}
-use Rattle.device.specs.declared.chips.Answer.TheVariants.{Done, Signed, Counter, Closed, Opened, Now, Refused}
+use Rattle.device.specs.declared.chips.Answer.TheVariants.{Done, Signed, Counter, Closed, Opened, Refused}
 use Rattle.device.specs.declared.chips.Target.{Target}
 use Rattle.device.specs.declared.chips.Target.TheVariants.{Row, Nowhere}
 use Rattle.device.specs.declared.chips.Content.{Content}
@@ -19,7 +19,6 @@ use Rattle.device.specs.declared.chips.Thing.{Thing}
 use Rattle.device.specs.declared.digests.Data.{Data}
 use Rattle.device.specs.declared.digests.Digest.{Digest}
 use Rattle.device.specs.declared.refusals.Refusal.{Refusal}
-use Rattle.device.specs.declared.registers.Register.{Register}
 use Rattle.device.specs.Rows.{words}
 use Rattle.device.specs.Things.{sealed_by_of}
 use Rattle.device.specs.Commands.{sealed, content}

@@ -1,6 +1,7 @@
 //! Strings of thirty-two bytes, and whether two are the same.
 
 ghost use Rattle.std.specs.Prelude.{◌≡◌, Decides};
+ghost use Rattle.std.specs.Str.{bytes_eq};
 ghost use Rattle.std.specs.Cmp.Rules.{comparing};
 ghost use Rattle.std.proofs.Common.{rules};
 
@@ -11,11 +12,14 @@ pub struct Digest {
 }
 
 impl PartialEq for Digest {
-    ghost equals = { λ x y r. Decides r (x ≡ y) };
+    ghost eq = { λ x y. bytes_eq x.bytes y.bytes };
 
     ghost laws = { Prim.search (comparing, rules) };
 
-    fn eq(&self, other: &Digest) -> bool {
+    fn eq(&self, other: &Digest) -> bool
+        ensures computes { result ≡ bytes_eq self.now.bytes other.now.bytes }
+        ensures decides { Decides result (self.now ≡ other.now) }
+    {
         self.bytes == other.bytes
     }
 }
@@ -27,11 +31,14 @@ pub struct Data {
 }
 
 impl PartialEq for Data {
-    ghost equals = { λ x y r. Decides r (x ≡ y) };
+    ghost eq = { λ x y. bytes_eq x.bytes y.bytes };
 
     ghost laws = { Prim.search (comparing, rules) };
 
-    fn eq(&self, other: &Data) -> bool {
+    fn eq(&self, other: &Data) -> bool
+        ensures computes { result ≡ bytes_eq self.now.bytes other.now.bytes }
+        ensures decides { Decides result (self.now ≡ other.now) }
+    {
         self.bytes == other.bytes
     }
 }

@@ -1,22 +1,21 @@
 -- The promise on questions and acceptances.
 use mathlib.Core.Path.{◌≡◌, refl, sym, ap, subst, ◌∙◌}
-use mathlib.Core.Bool.{true}
 use mathlib.Core.Logic.{◌⊎◌, inl, inr}
 use mathlib.Core.List.Memᴰ
-use mathlib.Core.List.{List, ◌∷◌, ◌++◌, Memᴰ}
+use mathlib.Core.List.{List, Memᴰ}
 use Prim.Native.Nat.{ℕ, suc, ◌*◌, ◌<◌}
 use native.Mathlib.Omega.{arith}
-use Rattle.model.specs.Term.{Term, Digest, Pair, Row, Derives}
+use Rattle.model.specs.Term.{Term, Digest, Derives}
 use Rattle.model.specs.World.{Programs, Question, Acceptance, World, allGood}
 use Rattle.model.specs.Effect.{honest, statement, made}
 use Rattle.model.specs.Step.{Step}
 use Rattle.model.specs.Run.{Run, onward, Moment}
-use Rattle.model.specs.Promise.{OneMore, Was, Judged, Fresh, Acceptances}
+use Rattle.model.specs.Promise.{Was, Judged, Fresh, Acceptances}
 use Rattle.model.proofs.Lists.{keeps, old_or_new, one_more_map, middle, Apart, apart_middle, falling_below}
 use Rattle.model.proofs.Machines.{sound}
 use Rattle.model.proofs.History.{Asks, Takes, history}
 use Rattle.model.proofs.Judges.{Asked, turns, settled}
-use Rattle.model.proofs.Moments.{all_along, join, asked_along, closed_along, since}
+use Rattle.model.proofs.Moments.{all_along, asked_along, closed_along, since}
 use Rattle.model.proofs.Draws.{Purpose, Undrawn, ToAsk, ToClose, Done}
 use Rattle.model.proofs.Secrets.{Public, SignedOn, knows, known_safe}
 

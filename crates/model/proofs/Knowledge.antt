@@ -1,6 +1,5 @@
 -- What outsiders can work out: a predicate on terms that holds of all that was heard holds of all that follows from it.
-use mathlib.Core.Path.{◌≡◌}
-use mathlib.Core.List.{List, ◌∷◌, Memᴰ}
+use mathlib.Core.List.{List, Memᴰ}
 use Prim.Native.Nat.{ℕ, ◌+◌, ◌*◌}
 use Rattle.model.specs.Term.{Term, Num, Nonce, Row, Pair, Sign, Sealed, Derives, has, num, own_nonce, row, pair, left, right, signed}
 

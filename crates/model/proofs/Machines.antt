@@ -3,8 +3,8 @@ use mathlib.Core.Path.{◌≡◌, refl, sym, ap, subst, ◌∙◌}
 use mathlib.Core.Bool.{Bool, true, false, true≢false, and-eq-true_iff}
 use mathlib.Core.Logic.{◌⊎◌, inl, inr}
 use mathlib.Core.List.Memᴰ
-use mathlib.Core.List.{List, [], ◌∷◌, ◌++◌, Memᴰ}
-use Prim.Native.Nat.{ℕ, suc, ◌≤◌, ◌<◌}
+use mathlib.Core.List.{List, [], ◌∷◌, Memᴰ}
+use Prim.Native.Nat.{ℕ, ◌≤◌, ◌<◌}
 use native.Mathlib.Omega.{arith}
 use Rattle.model.specs.Term.{Digest}
 use Rattle.model.specs.World.{Programs, Thing, Machine, World, allGood}
@@ -12,7 +12,7 @@ use Rattle.model.specs.Effect.{at, made}
 use Rattle.model.specs.Step.{Step, switches, boots, loads, puts_only, loads_only, signs, counts, closes, closes_given, passes_over, opens, opens_told, takes_chip, takes_list, asks, puts_out, falls, accepts}
 use Rattle.model.specs.Run.{Run, here, onward}
 use Rattle.model.specs.Promise.{Begins, OneMore, Next}
-use Rattle.model.proofs.Lists.{keeps, Falling, falling_up}
+use Rattle.model.proofs.Lists.{Falling, falling_up}
 use Rattle.model.proofs.Places.{at_all}
 
 -- ---- rows of good programs

@@ -1,5 +1,4 @@
 -- Runs and their moments: what was stays.
-use mathlib.Core.Path.{◌≡◌}
 use mathlib.Core.List.{Memᴰ}
 use Prim.Native.Nat.{ℕ, suc, ◌+◌, ◌≤◌}
 use native.Mathlib.Nat.{add-zero, add-suc}

@@ -3,16 +3,16 @@ use mathlib.Core.Path.{◌≡◌, refl, sym, ap, subst, ◌∙◌}
 use mathlib.Core.Bool.{Bool, true, false, true≢false}
 use mathlib.Core.Logic.{◌⊎◌, inl, inr}
 use mathlib.Core.List.Memᴰ
-use mathlib.Core.List.{List, [], ◌∷◌, Memᴰ}
-use Prim.Native.Nat.{ℕ, suc, ◌≤◌, ◌<◌}
+use mathlib.Core.List.{◌∷◌, Memᴰ}
+use Prim.Native.Nat.{ℕ, ◌≤◌, ◌<◌}
 use native.Mathlib.Omega.{arith}
-use Rattle.model.specs.Term.{Term, Sealed, Derives, has}
-use Rattle.model.specs.World.{Programs, Target, Nowhere, Thing, Machine, Opening, World, allGood}
-use Rattle.model.specs.Effect.{thing, with_thing, counted, opening, made, giving_out, having_drawn}
-use Rattle.model.specs.Step.{Opens, Step, counts, closes, closes_given, opens, opens_told}
+use Rattle.model.specs.Term.{Derives, has}
+use Rattle.model.specs.World.{Programs, Target, Nowhere, Thing, Opening, World, allGood}
+use Rattle.model.specs.Effect.{with_thing, counted, opening, made}
+use Rattle.model.specs.Step.{Opens, counts, closes, closes_given, opens, opens_told}
 use Rattle.model.specs.Run.{Run, here, onward}
-use Rattle.model.specs.Promise.{Can, OneMore, Fits, Closes, Next, Openings, Counters, Numbers, Registers}
-use Rattle.model.proofs.Lists.{keeps, old_or_new, Apart, apart_middle, falling_apart}
+use Rattle.model.specs.Promise.{Can, Fits, Closes, Openings, Counters, Numbers, Registers}
+use Rattle.model.proofs.Lists.{old_or_new, Apart, apart_middle, falling_apart}
 use Rattle.model.proofs.Places.{at_same}
 use Rattle.model.proofs.Machines.{moves, sound}
 use Rattle.model.proofs.History.{history}

@@ -3,8 +3,8 @@ use mathlib.Core.Path.{◌≡◌, refl, sym, ap, subst, subst₂, ◌∙◌}
 use mathlib.Core.Bool.{Bool, true, false, true≢false}
 use mathlib.Core.Logic.{◌⊎◌, inl, inr}
 use mathlib.Core.List.Memᴰ
-use mathlib.Core.List.{List, [], ◌∷◌, Memᴰ}
-use Prim.Native.Nat.{ℕ, suc, ◌+◌, ◌*◌, ◌≤◌, ◌<◌}
+use mathlib.Core.List.{◌∷◌, Memᴰ}
+use Prim.Native.Nat.{ℕ, suc, ◌+◌, ◌*◌}
 use native.Mathlib.Omega.{arith}
 use Rattle.model.specs.Term.{Term, Nonce, Sealed, Derives, has}
 use Rattle.model.specs.World.{Programs, Thing, Machine, Question, World, allGood}
@@ -16,7 +16,7 @@ use Rattle.model.proofs.Lists.{keeps, old_or_new, one_more_map}
 use Rattle.model.proofs.Knowledge.{Safe, derives_safe, safe_map, derives_more}
 use Rattle.model.proofs.Moments.{now, then}
 use Rattle.model.proofs.Places.{at_all, at_same}
-use Rattle.model.proofs.Draws.{Purpose, Undrawn, ToAsk, ToClose, Done, Draws, Extends, draws_none, draws_one, purposes, purposes_extend}
+use Rattle.model.proofs.Draws.{Purpose, Undrawn, ToAsk, ToClose, Draws, Extends, draws_none, draws_one, purposes, purposes_extend}
 
 -- ---- what outsiders may have
 

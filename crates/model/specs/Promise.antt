@@ -1,5 +1,5 @@
 -- What is promised of the whole: of every run from the beginning of the world, and of the world at its end.
-use Rattle.std.specs.Prelude.{◌≡◌, true, false, ◌⊎◌, ℕ, suc, ◌+◌, ◌≤◌, ◌<◌, length}
+use Rattle.std.specs.Prelude.{◌≡◌, true, false, ◌⊎◌, ℕ, ◌+◌, ◌≤◌, ◌<◌, length}
 use mathlib.Core.List.{List, [], ◌∷◌, ◌++◌, Memᴰ}
 use Rattle.model.specs.Term.{Term, Digest, Sealed, Derives}
 use Rattle.model.specs.World.{Programs, Target, For, Nowhere, Thing, Machine, Question, Acceptance, Opening, World, allGood}

@@ -1,4 +1,5 @@
 //! The world of machines, judges and outsiders as steps, and what is promised of every run of it.
+#![tactic(auto)]
 
 ghost use Rattle.model.specs.Promise.{Main};
 

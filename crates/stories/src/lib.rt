@@ -1,4 +1,5 @@
 //! What is promised of what really ran, more than the fleet promises: with every acceptance it is reported.
+#![tactic(auto)]
 
 ghost use Rattle.stories.specs.Stories.{FleetStory};
 
