@@ -1,5 +1,5 @@
 -- Following start lists, one after another.
-use Rattle.std.proofs.Common.{◌≡◌, ℕ, zero, suc, ◌+◌, ◌-◌, ◌<◌, ◌≤◌, List, map, length, Some, None, Option, sym, refl, ap, ◌∙◌, subst, arith}
+use Rattle.std.proofs.Common.{◌≡◌, ℕ, suc, ◌+◌, ◌-◌, ◌<◌, ◌≤◌, List, map, length, Some, None, Option, sym, refl, ap, ◌∙◌, arith}
 use Rattle.device.specs.declared.refusals.Refusal.TheVariants.{NoProgram}
 use Rattle.device.specs.Rows.{row}
 use Rattle.boot.specs.declared.disks.Name.{Name}

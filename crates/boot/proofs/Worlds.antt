@@ -1,5 +1,5 @@
 -- Starting and loading are the steps that they say.
-use Rattle.std.proofs.Common.{◌≡◌, ℕ, zero, suc, Bool, true, false, cond, eqb, List, [], ◌∷◌, ◌++◌, map, length, Some, None, Option, sym, refl, ap, ◌∙◌, subst, arith}
+use Rattle.std.proofs.Common.{◌≡◌, ℕ, zero, suc, Bool, true, false, cond, eqb, List, [], ◌∷◌, map, length, Some, None, Option, sym, refl, ap, ◌∙◌, subst, arith}
 use Rattle.std.proofs.lemmas.Bool.Decides.{nat_tests}
 use Rattle.model.specs.Term as term
 use Rattle.model.specs.World.{Programs, World}
@@ -8,12 +8,11 @@ use Rattle.model.specs.Step as step
 use Rattle.model.specs.Run.{Run, here, onward}
 use Rattle.model.specs.Promise.{Begins}
 use Rattle.model.proofs.Places.{at_same}
-use Rattle.device.specs.declared.chips.Chip.{Chip}
 use Rattle.device.specs.declared.chips.Answer.TheVariants.{Done}
 use Rattle.device.specs.declared.chips.Command.TheVariants.{Put}
 use Rattle.device.specs.declared.digests.Digest.{Digest}
 use Rattle.device.specs.declared.refusals.Refusal.{Refusal}
-use Rattle.device.specs.declared.refusals.Refusal.TheVariants.{Full, Malformed, NoProgram}
+use Rattle.device.specs.declared.refusals.Refusal.TheVariants.{Malformed}
 use Rattle.device.specs.declared.registers.Register.{Register}
 use Rattle.device.specs.Rows.{row, words, pushed}
 use Rattle.device.specs.Commands.{put_of, put_by}
@@ -26,7 +25,7 @@ use Rattle.boot.specs.declared.disks.Batch.{Batch}
 use Rattle.boot.specs.declared.machines.Machine.{Machine}
 use Rattle.boot.specs.Disks.{unread, program_of, batch_of}
 use Rattle.boot.specs.Machines.{switched, done, ran_with, load_of, go_on, load_all_of}
-use Rattle.boot.specs.Starts.{Outcome, further_from, loaded_from, batch_from, follow, first_from, start_of, asked_from, program_from, ask_of}
+use Rattle.boot.specs.Starts.{further_from, loaded_from, batch_from, follow, first_from, start_of, asked_from, program_from, ask_of}
 use Rattle.boot.specs.Worlds.{Stands, after_row, Started, Starts, latest, Asks, Refuses}
 
 -- ---- one program more

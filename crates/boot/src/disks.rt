@@ -3,6 +3,7 @@
 pub mod reads;
 
 ghost use Rattle.std.specs.Prelude.{◌≡◌, Decides};
+ghost use Rattle.std.specs.Str.{bytes_eq};
 ghost use Rattle.std.specs.Cmp.Rules.{comparing};
 ghost use Rattle.std.proofs.Common.{rules};
 
@@ -15,11 +16,14 @@ pub struct Name {
 }
 
 impl PartialEq for Name {
-    ghost equals = { λ x y r. Decides r (x ≡ y) };
+    ghost eq = { λ x y. bytes_eq x.bytes y.bytes };
 
     ghost laws = { Prim.search (comparing, rules) };
 
-    fn eq(&self, other: &Name) -> bool {
+    fn eq(&self, other: &Name) -> bool
+        ensures computes { result ≡ bytes_eq self.now.bytes other.now.bytes }
+        ensures decides { Decides result (self.now ≡ other.now) }
+    {
         self.bytes == other.bytes
     }
 }

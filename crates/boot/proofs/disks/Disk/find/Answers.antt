@@ -1,4 +1,4 @@
-use Rattle.std.proofs.Common.{◌≡◌, vec_items, sym, ◌∙◌, arith}
+use Rattle.std.proofs.Common.{◌≡◌, sym, ◌∙◌, arith}
 use Rattle.boot.proofs.disks.Disk.find.Goals as goal
 use Rattle.boot.proofs.Places.{passed_none, passed_more, passed_found, passed_all}
 

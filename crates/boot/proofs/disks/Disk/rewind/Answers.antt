@@ -1,4 +1,4 @@
-use Rattle.std.proofs.Common.{vec_items, refl, arith}
+use Rattle.std.proofs.Common.{refl, arith}
 use Rattle.std.proofs.lemmas.List.Edits.{map_over_more}
 use Rattle.boot.specs.Disks.{unread}
 use Rattle.boot.proofs.Places.{map_done}

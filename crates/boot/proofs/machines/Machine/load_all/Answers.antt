@@ -1,10 +1,9 @@
-use Rattle.std.proofs.Common.{Some, None, sym, refl, ap, ◌∙◌, true≢false, arith}
+use Rattle.std.proofs.Common.{Some, None, sym, refl, ◌∙◌, true≢false, arith}
 use Rattle.device.specs.Rows.{row}
 use Rattle.device.proofs.Rows.{row_length}
-use Rattle.boot.specs.Machines.{load_all_of, go_on}
 use Rattle.boot.proofs.Loads.{load_next, load_done, nth_within}
 use Rattle.boot.proofs.machines.Machine.load_all.Goals as goal
-use Rattle.boot.proofs.machines.Machine.load_all.Goals.{else-programs-test, then-programs-test+in-default, then-programs-test+in-Some+in-default-load}
+use Rattle.boot.proofs.machines.Machine.load_all.Goals.{else-programs-test, then-programs-test+in_default, then-programs-test+in-Some+in_default-load}
 
 pub programs-init : goal.programs-init
 programs-init c = (refl, refl)
@@ -14,8 +13,8 @@ programs-preserved c = (c.programs.invariant.0, load_next c.programs.machine (ro
 
 pub returns-then-full : goal.returns-then-full
 returns-then-full c =
-    elim c.programs-test.branch [ else-programs-test w ↦ absurd (true≢false (sym c.if-full.true ∙ w.full-is ∙ c.programs.invariant.0)) | then-programs-test+in-default w ↦ absurd (true≢false (sym c.if-full.true ∙ w.full-is ∙ c.programs.invariant.0)) | then-programs-test+in-Some+in-default-load w ↦ load_next c.programs.machine (row c.args.programs) c.programs.i w.in-Some.digest w.digest.result None _ (omega (arith, w.programs-test.true, row_length c.args.programs)) w.digest.ensures w.in-Some.is (sym w.in-default-load.is ∙ w.load.ensures) c.programs.invariant.1 ]
+    elim c.programs-test.branch [ else-programs-test w ↦ absurd (true≢false (sym c.if-full.true ∙ w.full-is ∙ c.programs.invariant.0)) | then-programs-test+in_default w ↦ absurd (true≢false (sym c.if-full.true ∙ w.full-is ∙ c.programs.invariant.0)) | then-programs-test+in-Some+in_default-load w ↦ load_next c.programs.machine (row c.args.programs) c.programs.i w.in-Some.digest w.digest.result None _ (omega (arith, w.programs-test.true, row_length c.args.programs)) w.digest.ensures w.in-Some.is (sym w.in_default-load.is ∙ w.load.ensures) c.programs.invariant.1 ]
 
 pub returns-else-full : goal.returns-else-full
 returns-else-full c =
-    elim c.programs-test.branch [ else-programs-test w ↦ load_done c.programs.machine (row c.args.programs) c.programs.i _ (omega (arith, w.programs-test.false, row_length c.args.programs)) c.programs.invariant.1 | then-programs-test+in-default w ↦ absurd (nth_within (row c.args.programs) c.programs.i w.digest.result (omega (arith, w.programs-test.true, row_length c.args.programs)) w.digest.ensures w.in-default.is) | then-programs-test+in-Some+in-default-load w ↦ absurd (true≢false (sym w.full-is ∙ c.if-full.false)) ]
+    elim c.programs-test.branch [ else-programs-test w ↦ load_done c.programs.machine (row c.args.programs) c.programs.i _ (omega (arith, w.programs-test.false, row_length c.args.programs)) c.programs.invariant.1 | then-programs-test+in_default w ↦ absurd (nth_within (row c.args.programs) c.programs.i w.digest.result (omega (arith, w.programs-test.true, row_length c.args.programs)) w.digest.ensures w.in_default.is) | then-programs-test+in-Some+in_default-load w ↦ absurd (true≢false (sym w.full-is ∙ c.if-full.false)) ]
