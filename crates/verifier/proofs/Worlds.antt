@@ -4,7 +4,6 @@ use mathlib.Core.List.{reverse-cons, Memᴰ}
 use Rattle.std.specs.List.{remove}
 use Rattle.std.proofs.lemmas.List.{map-append, take-append-drop, append-nil, take-map, length-map}
 use Rattle.std.proofs.lemmas.Bool.{and_parts}
-use Rattle.std.proofs.lemmas.Bool.Decides.{nat_tests}
 use Rattle.model.specs.Term as term
 use Rattle.model.specs.Term.{Derives}
 use Rattle.model.specs.World as world

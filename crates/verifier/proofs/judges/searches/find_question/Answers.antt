@@ -2,8 +2,8 @@ use Rattle.std.proofs.Common.{arith, rules}
 use Rattle.verifier.proofs.judges.searches.find_question.Goals as goal
 use Rattle.verifier.proofs.Searches.{place_hit, place_miss, place_end}
 
-pub returns-then-asks-this : goal.returns-then-asks-this
-returns-then-asks-this c = record { exact = search (rules, place_hit); within = omega arith }
+pub returns-then-asks_this : goal.returns-then-asks_this
+returns-then-asks_this c = record { exact = search (rules, place_hit); within = omega arith }
 
 pub loop-i-preserved : goal.loop-i-preserved
 loop-i-preserved c = search (rules, place_miss)
