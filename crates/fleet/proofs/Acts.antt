@@ -1,9 +1,8 @@
 -- Each event at a machine is matched by steps of the world.
-use Rattle.std.proofs.Common.{◌≡◌, ℕ, suc, ◌+◌, ◌^◌, ◌<◌, Bool, true, false, cond, not, ◌&&◌, eqb, ltb, ◌⊎◌, List, [], ◌∷◌, ◌++◌, map, reverse, length, Some, None, Option, sym, refl, ap, ◌∙◌, subst, inl, inr, true≢false, arith}
+use Rattle.std.proofs.Common.{◌≡◌, ℕ, ◌+◌, ◌<◌, Bool, true, false, cond, not, ◌&&◌, eqb, ltb, List, [], ◌∷◌, ◌++◌, map, reverse, length, Some, None, Option, sym, refl, ap, ◌∙◌, subst, arith}
 use mathlib.Core.Bool.{and_assoc, and-true}
-use mathlib.Core.List.{reverse-cons, Memᴰ}
+use mathlib.Core.List.{reverse-cons}
 use Rattle.std.proofs.lemmas.List.{map-append}
-use Rattle.std.proofs.lemmas.Bool.Decides.{nat_tests}
 use Rattle.model.specs.Term as term
 use Rattle.model.specs.Term.{Term, Derives, has}
 use Rattle.model.specs.World as world
@@ -11,13 +10,12 @@ use Rattle.model.specs.World.{Programs, World, allGood}
 use Rattle.model.specs.Effect as effect
 use Rattle.model.specs.Effect.{on_machine, honest}
 use Rattle.model.specs.Step as step
-use Rattle.model.specs.Run.{Run, here, onward}
+use Rattle.model.specs.Run.{here, onward}
 use Rattle.model.proofs.Places.{at_same, at_other}
-use Rattle.model.proofs.Knowledge.{Safe, derives_more}
+use Rattle.model.proofs.Knowledge.{Safe}
 use Rattle.device.specs.declared.chips.Answer.{Answer}
 use Rattle.device.specs.declared.chips.Answer.TheVariants as answer
 use Rattle.device.specs.declared.chips.Chip.{Chip}
-use Rattle.device.specs.declared.chips.Command.{Command}
 use Rattle.device.specs.declared.chips.Command.TheVariants as command
 use Rattle.device.specs.declared.chips.Target.{Target}
 use Rattle.device.specs.declared.chips.Thing.{Thing}
@@ -46,7 +44,7 @@ use Rattle.fleet.specs.Sights.{Sight, tainted, any_bad_of, with_machine, with_ch
 use Rattle.fleet.specs.declared.fleets.Report.{Report}
 use Rattle.fleet.specs.declared.fleets.Shown.{Shown}
 use Rattle.boot.specs.declared.disks.Entry.{Entry}
-use Rattle.fleet.specs.Worlds.{Setting, term_of, FleetStands, Brought, room, may_count, may_close, fits, ActAllowed, after_load, opened_by, after_act, Goes, MachineEvents}
+use Rattle.fleet.specs.Worlds.{Setting, term_of, FleetStands, Brought, room, may_count, may_close, ActAllowed, after_load, opened_by, after_act, Goes, MachineEvents}
 use Rattle.fleet.proofs.News.{Any, no_news}
 use Rattle.fleet.proofs.Standing.{moved, Told, told, told_more, told_heard, on_disk, on_shown}
 

@@ -1,5 +1,5 @@
 -- A run that meets all that is asked of its events.
-use Rattle.std.proofs.Common.{◌≡◌, ℕ, zero, suc, ◌<◌, Bool, true, false, cond, not, List, [], ◌∷◌, get_or, replicate, Some, None, Option, sym, refl, ap, ◌∙◌, subst, arith}
+use Rattle.std.proofs.Common.{◌≡◌, ℕ, zero, suc, ◌<◌, Bool, true, false, cond, not, List, [], ◌∷◌, get_or, Some, None, Option, sym, refl, ◌∙◌, subst, arith}
 use mathlib.Core.List.Memᴰ
 use Rattle.std.specs.Str.{bytes_eq}
 use Rattle.std.proofs.lemmas.Slice.Eq.{bytes_eq-Decides}
@@ -7,14 +7,12 @@ use Rattle.model.specs.Term.{has}
 use Rattle.model.specs.World.{Programs}
 use Rattle.model.specs.Effect.{made}
 use Rattle.device.specs.declared.digests.Data.{Data}
-use Rattle.device.specs.declared.digests.Digest.{Digest}
 use Rattle.device.specs.Rows.{same_digests}
 use Rattle.device.specs.Things.{same_data}
 use Rattle.boot.specs.Disks.{same_name, programs_of}
 use Rattle.boot.specs.Disks as disks
 use Rattle.boot.specs.Machines.{load_all_of, new_machine}
 use Rattle.boot.specs.Starts.{follow}
-use Rattle.verifier.specs.declared.judges.Said.{Said}
 use Rattle.verifier.specs.declared.judges.Said.TheVariants as said
 use Rattle.verifier.specs.Searches as searches
 use Rattle.verifier.specs.Searches.{some, is_digest}

@@ -1,5 +1,5 @@
 -- What outsiders learn of drawn numbers when one term more is said.
-use Rattle.std.proofs.Common.{◌≡◌, ℕ, ◌+◌, ◌*◌, List, ◌∷◌, sym, refl, ap, ◌∙◌, subst, arith}
+use Rattle.std.proofs.Common.{◌≡◌, ℕ, ◌+◌, ◌*◌, List, ◌∷◌, sym, refl, subst, arith}
 use mathlib.Core.List.{Memᴰ}
 use Rattle.model.specs.Term.{Term, Num, Nonce, Row, Pair, Sign, Sealed, Derives, has, left, right, signed}
 use Rattle.model.specs.Effect.{honest}

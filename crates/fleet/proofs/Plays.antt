@@ -1,15 +1,12 @@
 -- Every event, and every run of events.
-use Rattle.std.proofs.Common.{◌≡◌, ℕ, ◌+◌, ◌<◌, Bool, true, false, cond, not, T, ltb, ◌⊎◌, List, [], ◌∷◌, length, Option, sym, refl, ap, ◌∙◌, subst, inl, inr, true≢false, arith, ltb→lt}
+use Rattle.std.proofs.Common.{◌≡◌, ℕ, ◌+◌, ◌<◌, Bool, true, false, cond, T, ltb, List, [], ◌∷◌, length, Option, sym, refl, ap, ◌∙◌, subst, true≢false, arith, ltb→lt}
 use mathlib.Core.List.Memᴰ
 use Rattle.model.specs.World.{World}
 use Rattle.model.specs.Effect as effect
 use Rattle.model.specs.Effect.{made, on_judge}
-use Rattle.model.specs.Step.{Step}
-use Rattle.model.specs.Run.{Run, here, onward}
-use Rattle.model.specs.Promise.{OneMore, Judged}
+use Rattle.model.specs.Run.{Run, here}
 use Rattle.model.proofs.Main.{main}
 use Rattle.model.proofs.Moments.{join}
-use Rattle.device.specs.declared.digests.Data.{Data}
 use Rattle.device.specs.declared.digests.Digest.{Digest}
 use Rattle.device.specs.declared.registers.Register.{Register}
 use Rattle.verifier.specs.declared.judges.Reply.{Reply}
@@ -22,7 +19,6 @@ use Rattle.boot.specs.Worlds as boot
 use Rattle.device.specs.Things.{same_data}
 use Rattle.model.specs.Term.{Nonce, Derives}
 use Rattle.model.proofs.Knowledge.{derives_safe}
-use Rattle.fleet.specs.declared.fleets.Act.{Act}
 use Rattle.fleet.specs.declared.fleets.Event.{Event}
 use Rattle.fleet.specs.declared.fleets.Event.TheVariants.{At, Office, Net, Fall, Write, Wipe}
 use Rattle.fleet.specs.Sights.{Sight, found, machine_at, seat_at, with_seat, acted, judged, played}
@@ -30,7 +26,7 @@ use Rattle.fleet.specs.declared.fleets.Report.{Report}
 use Rattle.fleet.specs.declared.fleets.Report.TheVariants.{Done, Nobody, NoMemory}
 use Rattle.fleet.specs.Worlds.{Setting, drawn, FleetStands, ActAllowed, WordAllowed, after_word, after_net, Goes}
 use Rattle.verifier.specs.Seats.{Seat, new_seat, answer_of, office_of, net_of}
-use Rattle.fleet.specs.Runs.{Allowed, after_at, after, Plays, Happening, next, Ran, Ready, final, OfAccepted, OfWord, OfEvent, Claim, Claims, Agrees, Kept, PlaySteps, Tells, FleetPromise}
+use Rattle.fleet.specs.Runs.{Allowed, after_at, after, Plays, Happening, next, Ran, Ready, final, OfAccepted, OfWord, OfEvent, Claim, Claims, Agrees, PlaySteps, Tells, FleetPromise}
 use Rattle.fleet.specs.Makes.{Begins}
 use Rattle.fleet.proofs.Acts.{machine_events}
 use Rattle.fleet.proofs.Words.{office_words, net_words, judge_falls, answer_true}

@@ -1,5 +1,5 @@
 -- One judge of the fleet is told something, and the fleet is the same but for its seat and what outsiders heard.
-use Rattle.std.proofs.Common.{◌≡◌, ℕ, ◌<◌, ◌≤◌, Bool, true, false, cond, ltb, List, [], ◌∷◌, map, length, get_or, set, Some, None, Option, sym, refl, ap, ◌∙◌, subst, arith}
+use Rattle.std.proofs.Common.{◌≡◌, ℕ, ◌<◌, ◌≤◌, true, false, cond, ltb, List, map, length, get_or, set, Some, None, Option, sym, refl, ap, ◌∙◌, arith}
 use lib.Seq.{map-set_same}
 use Rattle.std.proofs.lemmas.List.{get_or-map, length-map, map-set}
 use Rattle.std.proofs.lemmas.Bool.Decides.{nat_tests}

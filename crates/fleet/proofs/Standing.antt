@@ -14,7 +14,7 @@ use Rattle.boot.specs.Worlds as boot
 use Rattle.verifier.specs.Searches.{some}
 use Rattle.verifier.specs.Seats.{Seat}
 use Rattle.verifier.specs.Worlds as verifier
-use Rattle.fleet.specs.Sights.{Sight, with_machine, with_disk, showing, machine_at}
+use Rattle.fleet.specs.Sights.{Sight, with_machine, with_disk, showing}
 use Rattle.fleet.specs.declared.fleets.Shown.{Shown}
 use Rattle.boot.specs.declared.disks.Entry.{Entry}
 use Rattle.model.proofs.Knowledge.{Safe, derives_more}

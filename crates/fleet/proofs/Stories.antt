@@ -10,7 +10,6 @@ use Rattle.model.proofs.Moments.{now, then}
 use Rattle.device.specs.declared.chips.Answer.{Answer}
 use Rattle.device.specs.declared.chips.Answer.TheVariants as answer
 use Rattle.device.specs.declared.chips.Chip.{Chip}
-use Rattle.device.specs.declared.chips.Command.{Command}
 use Rattle.device.specs.declared.chips.Command.TheVariants as command
 use Rattle.device.specs.declared.digests.Data.{Data}
 use Rattle.device.specs.declared.digests.Digest.{Digest}
@@ -46,7 +45,7 @@ use Rattle.fleet.specs.declared.fleets.Event.TheVariants.{At, Office, Net, Fall,
 use Rattle.fleet.specs.declared.fleets.Report.{Report}
 use Rattle.fleet.specs.declared.fleets.Report.TheVariants.{Done, Nobody, NoMemory}
 use Rattle.fleet.specs.declared.fleets.Shown.{Shown}
-use Rattle.fleet.specs.Sights.{Sight, tainted, same_signature, ran_of, shown_by, opening_told, running, given, acted, judged, machine_at, seat_at, found, played}
+use Rattle.fleet.specs.Sights.{Sight, tainted, same_signature, ran_of, shown_by, opening_told, running, acted, judged, machine_at, seat_at, found, played}
 use Rattle.fleet.specs.Worlds.{Setting, term_by, nonce_by, term_of, drawn, FleetStands, WordAllowed, Goes}
 use Rattle.fleet.specs.Runs.{Allowed, after, Happening, next, Ran, Ready, OfAccepted}
 use Rattle.fleet.specs.Stories.{longer, Really, IfRan, RanClaim, Story, FleetStory}

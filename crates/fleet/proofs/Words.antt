@@ -1,7 +1,5 @@
 -- Each word to a judge is matched by steps of the world.
-use Rattle.std.proofs.Common.{◌≡◌, ℕ, suc, ◌<◌, Bool, true, false, cond, eqb, ltb, List, [], ◌∷◌, length, is_some, Some, None, Option, sym, refl, ap, ◌∙◌, subst, inl, inr, arith}
-use Rattle.model.specs.Term as term
-use Rattle.model.specs.Term.{Term, Derives, has}
+use Rattle.std.proofs.Common.{◌≡◌, ℕ, ◌<◌, Bool, true, false, cond, eqb, ltb, List, [], ◌∷◌, length, is_some, Some, None, Option, sym, refl, ap, ◌∙◌, subst, inl, inr, arith}
 use Rattle.model.specs.World as world
 use Rattle.model.specs.World.{Programs, World}
 use Rattle.model.specs.Effect as effect
@@ -12,25 +10,20 @@ use Rattle.fleet.specs.Runs.{OfAccepted}
 use Rattle.verifier.specs.Worlds.{question_of}
 use Rattle.model.specs.Step as step
 use Rattle.model.specs.Run.{Run, here, onward}
-use Rattle.model.proofs.Places.{at_same, at_other}
+use Rattle.model.proofs.Places.{at_other}
 use Rattle.device.specs.declared.digests.Data.{Data}
 use Rattle.device.specs.declared.digests.Digest.{Digest}
-use Rattle.device.specs.declared.refusals.Refusal.{Refusal}
-use Rattle.device.specs.declared.refusals.Refusal.TheVariants as refusal
 use Rattle.device.specs.declared.registers.Register.{Register}
 use Rattle.device.specs.Rows.{words}
-use Rattle.boot.specs.Worlds as boot
-use Rattle.verifier.specs.declared.judges.Flags.{Flags}
 use Rattle.verifier.specs.declared.judges.Reply.{Reply}
 use Rattle.verifier.specs.declared.judges.Said.{Said}
 use Rattle.verifier.specs.declared.judges.Said.TheVariants as said
 use Rattle.verifier.specs.declared.judges.Word.{Word}
 use Rattle.verifier.specs.declared.judges.Word.TheVariants as word
 use Rattle.verifier.specs.declared.judges.List as list
-use Rattle.verifier.specs.Ages.{aged}
 use Rattle.verifier.specs.Rows.{gathered}
-use Rattle.verifier.specs.Searches.{some, seek, place, has_number, asks}
-use Rattle.verifier.specs.Seats.{Seat, new_seat, new_question, with_questions, begins, signs, list_by, ask_by, answer_by, answer_at, answer_of, office_of, net_of}
+use Rattle.verifier.specs.Searches.{some, seek, has_number}
+use Rattle.verifier.specs.Seats.{Seat, new_seat, new_question, begins, signs, list_by, ask_by, answer_by, answer_at, answer_of, office_of, net_of}
 use Rattle.verifier.specs.Worlds as verifier
 use Rattle.verifier.proofs.Worlds as judges
 use Rattle.verifier.proofs.Refusals as idle

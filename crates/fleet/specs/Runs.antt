@@ -1,5 +1,5 @@
 -- Runs of the fleet: events with their reports, one after another, from the making of the fleet on.
-use Rattle.std.specs.Prelude.{◌≡◌, ℕ, ◌<◌, Bool, true, false, cond, not, List, [], ◌∷◌, length, Option, nat_lt, refl}
+use Rattle.std.specs.Prelude.{◌≡◌, ℕ, Bool, true, false, cond, not, List, [], ◌∷◌, length, Option, nat_lt, refl}
 use Rattle.model.specs.World.{World}
 use Rattle.model.specs.Effect as effect
 use Rattle.model.specs.Effect.{on_judge, made}
@@ -8,13 +8,11 @@ use Rattle.model.specs.Promise.{Judged, Whole}
 use Rattle.device.specs.declared.digests.Digest.{Digest}
 use Rattle.device.specs.declared.registers.Register.{Register}
 use Rattle.device.specs.Rows.{words}
-use Rattle.boot.specs.declared.machines.Machine.{Machine}
-use Rattle.boot.specs.Machines as machine
 use Rattle.verifier.specs.declared.judges.Reply.{Reply}
 use Rattle.verifier.specs.declared.judges.Word.{Word}
 use Rattle.verifier.specs.declared.judges.Word.TheVariants as word
 use Rattle.verifier.specs.Searches.{some, is_digest}
-use Rattle.verifier.specs.Seats.{Seat, new_seat, new_question, office_of, net_of}
+use Rattle.verifier.specs.Seats.{new_question, office_of, net_of}
 use Rattle.verifier.specs.Worlds.{question_of}
 use Rattle.fleet.specs.declared.fleets.Act.{Act}
 use Rattle.fleet.specs.declared.fleets.Event.{Event}

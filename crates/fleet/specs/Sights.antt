@@ -1,12 +1,11 @@
 -- What each event does to a fleet, and what is reported.
-use Rattle.std.specs.Prelude.{ℕ, Bool, true, false, cond, ◌&&◌, ◌||◌, List, [], ◌∷◌, map, length, replicate, Some, None, vec_items, Option, ◌==◌, nat_lt, slice_index_or, slice_set}
+use Rattle.std.specs.Prelude.{ℕ, Bool, true, false, cond, ◌&&◌, List, [], ◌∷◌, map, length, replicate, Some, None, vec_items, Option, ◌==◌, nat_lt, slice_index_or, slice_set}
 use Rattle.device.specs.declared.chips.Answer.{Answer}
 use Rattle.device.specs.declared.chips.Answer.TheVariants as answer
 use Rattle.device.specs.declared.chips.Chip.{Chip}
 use Rattle.device.specs.declared.chips.Command.{Command}
 use Rattle.device.specs.declared.chips.Command.TheVariants as command
 use Rattle.device.specs.declared.chips.Signature.{Signature}
-use Rattle.device.specs.declared.chips.Target.{Target}
 use Rattle.device.specs.declared.chips.Target.TheVariants as target
 use Rattle.device.specs.declared.digests.Data.{Data}
 use Rattle.device.specs.declared.digests.Digest.{Digest}
@@ -21,7 +20,6 @@ use Rattle.boot.specs.declared.machines.Machine.{Machine}
 use Rattle.boot.specs.Disks.{added}
 use Rattle.boot.specs.Machines as machine
 use Rattle.boot.specs.Starts.{Outcome, start_of, ask_of}
-use Rattle.verifier.specs.declared.judges.Reply.{Reply}
 use Rattle.verifier.specs.declared.judges.Said.{Said}
 use Rattle.verifier.specs.declared.judges.Said.TheVariants as said
 use Rattle.verifier.specs.declared.judges.Word.{Word}

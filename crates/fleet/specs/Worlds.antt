@@ -1,5 +1,5 @@
 -- How a world stands for a fleet, what outsiders are taken to bring, and the world after each event.
-use Rattle.std.specs.Prelude.{◌≡◌, ℕ, ◌^◌, ◌<◌, Bool, true, false, cond, not, ◌&&◌, List, [], ◌∷◌, length, Some, None, Option, ◌==◌, nat_lt, refl}
+use Rattle.std.specs.Prelude.{◌≡◌, ℕ, ◌^◌, ◌<◌, Bool, true, false, cond, not, ◌&&◌, List, [], length, Some, None, Option, ◌==◌, nat_lt, refl}
 use mathlib.Core.List.{Memᴰ}
 use Rattle.model.specs.Term as term
 use Rattle.model.specs.Term.{Term, Derives}
@@ -8,9 +8,6 @@ use Rattle.model.specs.World.{Programs, World}
 use Rattle.model.specs.Effect as effect
 use Rattle.model.specs.Effect.{on_machine, on_judge}
 use Rattle.model.specs.Run.{Run}
-use Rattle.device.specs.declared.chips.Answer.{Answer}
-use Rattle.device.specs.declared.chips.Answer.TheVariants as answer
-use Rattle.device.specs.declared.chips.Command.{Command}
 use Rattle.device.specs.declared.chips.Command.TheVariants as command
 use Rattle.device.specs.declared.chips.Thing.{Thing}
 use Rattle.device.specs.declared.digests.Data.{Data}
@@ -21,7 +18,6 @@ use Rattle.device.specs.declared.registers.Register.{Register}
 use Rattle.device.specs.Things.{same_data, is_row, sealed_by_of}
 use Rattle.device.specs.Worlds.{target_of, Holds}
 use Rattle.boot.specs.declared.machines.Machine.{Machine}
-use Rattle.boot.specs.Machines as machine
 use Rattle.boot.specs.Starts.{start_of, ask_of}
 use Rattle.boot.specs.Worlds as boot
 use Rattle.boot.specs.Worlds.{after_row, latest}
@@ -39,11 +35,7 @@ use Rattle.verifier.specs.Worlds as verifier
 use Rattle.verifier.specs.Worlds.{question_of, questions_of, asked}
 use Rattle.fleet.specs.declared.fleets.Act.{Act}
 use Rattle.fleet.specs.declared.fleets.Act.TheVariants.{Switch, Start, Load, Give, Keep, Run as RunBad, CutCount, CutClose}
-use Rattle.fleet.specs.declared.fleets.Event.{Event}
-use Rattle.fleet.specs.declared.fleets.Event.TheVariants.{At, Office, Net, Fall, Write, Wipe}
-use Rattle.fleet.specs.declared.fleets.Report.{Report}
-use Rattle.fleet.specs.declared.fleets.Report.TheVariants.{Done, Refused, Unwilling, Nobody, NoMemory, Answered, Told, Accepted}
-use Rattle.fleet.specs.Sights.{Sight, tainted, machine_at, seat_at, with_seat, acted, judged, played}
+use Rattle.fleet.specs.Sights.{Sight, tainted, machine_at, seat_at, with_seat, acted, judged}
 
 -- what is given with a run: which programs are good, and which drawn bytes are which nonce; one nonce is not two strings of bytes
 pub record Setting : Type 0 where

@@ -4,4 +4,4 @@ use Rattle.fleet.specs.Makes.{Each}
 use Rattle.fleet.proofs.fleets.makes.new_judges.Given as goal
 
 abbrev pub invariant-loop-i : goal.invariant-loop-i
-invariant-loop-i l = Each (λ _. new_seat l.first) l.-i (map seat (vec_items l.judges))
+invariant-loop-i l = Each (λ _. new_seat l.first) l._i (map seat (vec_items l.judges))

@@ -8,7 +8,7 @@ pub loop-i-init : goal.loop-i-init
 loop-i-init c = each_none new_machine _ c.new-machines.ensures.items
 
 pub loop-i-preserved : goal.loop-i-preserved
-loop-i-preserved c = each_more new_machine c.loop-i.i _ _ _ c.loop-i.invariant c.new.ensures c.in-ok-push.ensures.items
+loop-i-preserved c = each_more new_machine c.loop-i.i _ _ _ c.loop-i.invariant c.new.ensures c.in_ok-push.ensures.items
 
 pub returns : goal.returns
 returns c =
