@@ -1,4 +1,5 @@
 //! Plays scripts of events over a fleet, and prints what comes of each.
+#![tactic(auto)]
 
 mod plays;
 mod scripts;
