@@ -1,12 +1,12 @@
 -- Every reader of words is exact.
-use Rattle.std.proofs.Common.{◌≡◌, ℕ, suc, ◌+◌, ◌%◌, ◌<◌, ◌≤◌, Bool, true, false, cond, ◌&&◌, eqb, ltb, List, [], ◌∷◌, ◌++◌, length, get_or, drop, Some, None, Ok, Err, Option, Result, sym, refl, ap, ◌∙◌, subst, arith, w8, ltb-false, eq-eqb, eqb-true}
+use Rattle.std.proofs.Common.{◌≡◌, ℕ, suc, ◌%◌, ◌<◌, ◌≤◌, Bool, true, false, cond, ◌&&◌, eqb, ltb, List, [], ◌∷◌, ◌++◌, length, get_or, drop, Some, None, Ok, Err, Option, Result, sym, refl, ap, ◌∙◌, subst, arith, w8, ltb-false, eq-eqb, eqb-true}
 use mir.Val as val
 use Rattle.std.specs.Int.Digits.{AllBelowBase}
 use Rattle.std.proofs.lemmas.List.{length-append, nil_from_length}
 use Rattle.std.proofs.lemmas.Bool.{cond-true, cond-false}
 use Rattle.std.proofs.lemmas.Bool.Decides.{nat_tests}
 use Rattle.wire.specs.declared.refusals.Refusal.{Refusal}
-use Rattle.wire.specs.Layouts.{Field, Part, Form, Fits, Number, big, encoded, total, fields, allowed, read_form, read_by, read_of, find, refusing}
+use Rattle.wire.specs.Layouts.{Field, Part, Form, Number, big, encoded, total, fields, allowed, read_form, read_by, read_of, find, refusing}
 use Rattle.wire.specs.Words.{Forms, always, Word, Exact, outcome, Reads}
 use Rattle.wire.proofs.Layouts.{grows, total_more, apart, together}
 

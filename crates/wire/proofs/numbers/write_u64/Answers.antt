@@ -4,4 +4,4 @@ use Rattle.wire.proofs.Bigs.{eight_bytes}
 use Rattle.wire.proofs.EightBytes.{wrote_all}
 
 pub returns : goal.returns
-returns c = wrote_all c.args.number c.args.out.now _ (omega arith) (c.copy-from-slice.ensures.after ∙ c.to-be-bytes.ensures ∙ eight_bytes c.args.number)
+returns c = wrote_all c.args.number c.args.out.now _ (omega arith) (c.copy_from_slice.ensures.after ∙ c.to_be_bytes.ensures ∙ eight_bytes c.args.number)

@@ -5,4 +5,4 @@ use Rattle.orders.proofs.answers.Answer.read.Goals as goal
 use Rattle.wire.proofs.Words.{reads}
 
 pub returns : goal.returns
-returns c = reads shown_answer Malformed answer_forms refl _ _ c.type-inv.word c.parse.ensures
+returns c = reads shown_answer Malformed answer_forms refl _ _ c.type_inv.word c.parse.ensures

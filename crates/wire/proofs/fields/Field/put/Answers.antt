@@ -11,19 +11,19 @@ pub returns-in-U8 : goal.returns-in-U8
 returns-in-U8 c = c.paste.ensures ∙ ap (λ bs. pasted c.args.at bs c.args.out.now) (one_byte c.in-U8.n (search rules) ∙ sym (ap (λ f. bytes_of (field_of f)) c.in-U8.is))
 
 pub paste-requires-in-U16 : goal.paste-requires-in-U16
-paste-requires-in-U16 c = let l = ap (λ f. length (bytes_of (field_of f))) c.in-U16.is ∙ length_big 2 c.in-U16.n in omega (arith, c.requires, ap length c.to-be-bytes.ensures)
+paste-requires-in-U16 c = let l = ap (λ f. length (bytes_of (field_of f))) c.in-U16.is ∙ length_big 2 c.in-U16.n in omega (arith, c.requires, ap length c.to_be_bytes.ensures)
 
 pub returns-in-U16 : goal.returns-in-U16
-returns-in-U16 c = c.paste-in-U16.ensures ∙ ap (λ bs. pasted c.args.at bs c.args.out.now) (c.to-be-bytes.ensures ∙ two_bytes c.in-U16.n ∙ sym (ap (λ f. bytes_of (field_of f)) c.in-U16.is))
+returns-in-U16 c = c.paste-in-U16.ensures ∙ ap (λ bs. pasted c.args.at bs c.args.out.now) (c.to_be_bytes.ensures ∙ two_bytes c.in-U16.n ∙ sym (ap (λ f. bytes_of (field_of f)) c.in-U16.is))
 
 pub paste-requires-in-U32 : goal.paste-requires-in-U32
-paste-requires-in-U32 c = let l = ap (λ f. length (bytes_of (field_of f))) c.in-U32.is ∙ length_big 4 c.in-U32.n in omega (arith, c.requires, ap length c.to-be-bytes-in-U32.ensures)
+paste-requires-in-U32 c = let l = ap (λ f. length (bytes_of (field_of f))) c.in-U32.is ∙ length_big 4 c.in-U32.n in omega (arith, c.requires, ap length c.to_be_bytes-in-U32.ensures)
 
 pub returns-in-U32 : goal.returns-in-U32
-returns-in-U32 c = c.paste-in-U32.ensures ∙ ap (λ bs. pasted c.args.at bs c.args.out.now) (c.to-be-bytes-in-U32.ensures ∙ four_bytes c.in-U32.n ∙ sym (ap (λ f. bytes_of (field_of f)) c.in-U32.is))
+returns-in-U32 c = c.paste-in-U32.ensures ∙ ap (λ bs. pasted c.args.at bs c.args.out.now) (c.to_be_bytes-in-U32.ensures ∙ four_bytes c.in-U32.n ∙ sym (ap (λ f. bytes_of (field_of f)) c.in-U32.is))
 
 pub paste-requires-in-U64 : goal.paste-requires-in-U64
-paste-requires-in-U64 c = let l = ap (λ f. length (bytes_of (field_of f))) c.in-U64.is ∙ length_big 8 c.in-U64.n in omega (arith, c.requires, ap length c.to-be-bytes-in-U64.ensures)
+paste-requires-in-U64 c = let l = ap (λ f. length (bytes_of (field_of f))) c.in-U64.is ∙ length_big 8 c.in-U64.n in omega (arith, c.requires, ap length c.to_be_bytes-in-U64.ensures)
 
 pub returns-in-U64 : goal.returns-in-U64
-returns-in-U64 c = c.paste-in-U64.ensures ∙ ap (λ bs. pasted c.args.at bs c.args.out.now) (c.to-be-bytes-in-U64.ensures ∙ eight_bytes c.in-U64.n ∙ sym (ap (λ f. bytes_of (field_of f)) c.in-U64.is))
+returns-in-U64 c = c.paste-in-U64.ensures ∙ ap (λ bs. pasted c.args.at bs c.args.out.now) (c.to_be_bytes-in-U64.ensures ∙ eight_bytes c.in-U64.n ∙ sym (ap (λ f. bytes_of (field_of f)) c.in-U64.is))
