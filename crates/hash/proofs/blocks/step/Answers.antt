@@ -1,4 +1,4 @@
-use Rattle.std.proofs.Common.{get_or, arith}
+use Rattle.std.proofs.Common.{get_or}
 use Rattle.hash.proofs.Schedules.{first_sum}
 use Rattle.hash.proofs.blocks.step.Goals as goal
 

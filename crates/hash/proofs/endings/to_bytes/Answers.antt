@@ -1,6 +1,5 @@
-use Rattle.std.proofs.Common.{◌≡◌, ◌+◌, ◌-◌, ◌*◌, refl, ◌∙◌, arith}
-use Rattle.std.proofs.lemmas.List.{take_all}
-use Rattle.hash.proofs.Outputs.{Wrote, wrote_more, wrote_all}
+use Rattle.std.proofs.Common.{◌+◌, ◌-◌, ◌*◌, refl, ◌∙◌, arith}
+use Rattle.hash.proofs.Outputs.{wrote_more, wrote_all}
 use Rattle.hash.proofs.endings.to_bytes.Goals as goal
 
 pub loop-i-init : goal.loop-i-init
