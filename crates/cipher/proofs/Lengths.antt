@@ -1,5 +1,5 @@
 -- Sixteen words make 64 bytes, whatever the words are.
-use Rattle.std.proofs.Common.{◌≡◌, ℕ, zero, suc, ◌+◌, ◌*◌, ◌<◌, List, [], ◌∷◌, ◌++◌, length, refl, ◌∙◌, arith, length-append, length-set}
+use Rattle.std.proofs.Common.{◌≡◌, ℕ, zero, suc, ◌*◌, ◌<◌, List, [], ◌∷◌, ◌++◌, length, refl, ◌∙◌, arith, length-append, length-set}
 use lib.Lanes.{Each1}
 use lib.LanesLaws.{length-zip2}
 use Rattle.std.specs.List.{flat_map}

@@ -1,5 +1,7 @@
 //! ChaCha20, as RFC 8439 has it: the block function, and the stream that turns bytes where they lie.
 
+#![tactic(auto)]
+
 pub mod blocks;
 pub mod exports;
 pub mod groups;

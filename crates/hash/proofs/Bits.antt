@@ -1,5 +1,5 @@
 -- Equal functions of bits: it is enough that they agree on single bits.
-use Rattle.std.proofs.Common.{◌≡◌, ℕ, zero, suc, ◌-◌, ◌*◌, ◌/◌, ◌%◌, ◌^◌, ◌<◌, sym, refl, ap, ◌∙◌, pow-suc, arith}
+use Rattle.std.proofs.Common.{◌≡◌, ℕ, zero, suc, ◌-◌, ◌/◌, ◌%◌, ◌^◌, ◌<◌, sym, refl, ap, ◌∙◌, pow-suc, arith}
 use lib.Bits.{bit_and, bit_xor, and_mod, and_shr, xor_mod, xor_shr}
 use Rattle.hash.specs.Words.{ch, maj}
 

@@ -1,9 +1,9 @@
 -- Messages after a block that was taken in before.
-use Rattle.std.proofs.Common.{◌≡◌, ℕ, ◌+◌, List, ◌++◌, length, sym, refl, ap, ◌∙◌, append_assoc, arith, length-append}
+use Rattle.std.proofs.Common.{◌≡◌, ℕ, ◌+◌, List, ◌++◌, length, ap, ◌∙◌, append_assoc, arith, length-append}
 use Rattle.hash.specs.Hashers.{closed, finished}
 use Rattle.hash.specs.Hmac.{hmac, inner_pad, outer_pad}
 use Rattle.hash.specs.Keys.{prepared}
-use Rattle.hash.specs.Sha256.{absorbed, compressed, initial, padding, sha256}
+use Rattle.hash.specs.Sha256.{compressed, initial, padding, sha256}
 use Rattle.hash.specs.declared.keys.Key.{Key}
 use Rattle.hash.proofs.Absorptions.{absorbed_append, absorbed_block}
 use Rattle.hash.proofs.Messages.{sha256_is}

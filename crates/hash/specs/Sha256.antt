@@ -1,5 +1,5 @@
 -- SHA-256 of a list of bytes (FIPS 180-4; RFC 6234, sections 4.1, 5.1, 6.1 and 6.2).
-use Rattle.std.specs.Prelude.{ℕ, zero, suc, ◌+◌, ◌-◌, ◌*◌, ◌/◌, ◌%◌, ◌^◌, cond, List, [], ◌∷◌, ◌++◌, length, replicate, fold, nat_lt, slice_index}
+use Rattle.std.specs.Prelude.{ℕ, zero, suc, ◌-◌, ◌*◌, ◌/◌, ◌%◌, ◌^◌, cond, List, [], ◌∷◌, ◌++◌, length, replicate, fold, nat_lt, slice_index}
 use Rattle.std.specs.List.{flat_map}
 use Rattle.std.specs.Simd.{first_chunks}
 use Rattle.hash.specs.Words.{plus, ch, maj, bsig0, bsig1, ssig0, ssig1, word_at, be32, be64}

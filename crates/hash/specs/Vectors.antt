@@ -1,6 +1,6 @@
 -- Published digests and codes: SHA-256 (RFC 6234, section 8.5, TEST1, TEST2_1, TEST6 and TEST8) and HMAC-SHA-256 (RFC 4231,
 -- section 4, cases 1 to 6).
-use Rattle.std.specs.Prelude.{◌≡◌, ℕ, zero, suc, ◌*◌, ◌/◌, ◌%◌, ◌^◌, List, [], ◌∷◌, take, replicate, codes}
+use Rattle.std.specs.Prelude.{◌≡◌, ℕ, zero, suc, ◌/◌, ◌%◌, ◌^◌, List, [], ◌∷◌, take, replicate, codes}
 use Rattle.hash.specs.Hmac.{hmac}
 use Rattle.hash.specs.Sha256.{sha256}
 

@@ -1,4 +1,5 @@
 //! SHA-256 and HMAC-SHA-256, and a comparison that looks at every byte.
+#![tactic(auto)]
 
 mod blocks;
 mod buffers;

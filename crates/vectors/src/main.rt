@@ -1,5 +1,7 @@
 //! Runs the published vectors of SHA-256, HMAC-SHA-256 and ChaCha20, and prints what came of each beside what should.
 
+#![tactic(auto)]
+
 mod codes;
 mod digests;
 mod rows;

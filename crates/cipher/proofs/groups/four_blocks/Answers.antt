@@ -20,7 +20,7 @@ returns c =
     let in-lanes = c.beside.ensures in
     let out = c.apart.ensures in
     four c.args.key c.args.nonce c.args.counter _ _ _ _ _ c.joined.ensures
-    (one _ _ _ _ _ _ c.state.ensures in-lanes.0 (c.mixed-words.ensures 0) out.0 c.bytes-of.ensures)
-    (one _ _ _ _ _ _ c.state-2.ensures in-lanes.1 (c.mixed-words.ensures 1) out.1 c.bytes-of-2.ensures)
-    (one _ _ _ _ _ _ c.state-3.ensures in-lanes.2 (c.mixed-words.ensures 2) out.2 c.bytes-of-3.ensures)
-    (one _ _ _ _ _ _ c.state-4.ensures in-lanes.3 (c.mixed-words.ensures 3) out.3 c.bytes-of-4.ensures)
+    (one _ _ _ _ _ _ c.state.ensures in-lanes.0 (c.mixed-words.ensures 0) out.0 c.bytes_of.ensures)
+    (one _ _ _ _ _ _ c.state-2.ensures in-lanes.1 (c.mixed-words.ensures 1) out.1 c.bytes_of-2.ensures)
+    (one _ _ _ _ _ _ c.state-3.ensures in-lanes.2 (c.mixed-words.ensures 2) out.2 c.bytes_of-3.ensures)
+    (one _ _ _ _ _ _ c.state-4.ensures in-lanes.3 (c.mixed-words.ensures 3) out.3 c.bytes_of-4.ensures)

@@ -9,7 +9,7 @@ loop-i-init c = (refl, refl)
 pub loop-i-preserved : goal.loop-i-preserved
 loop-i-preserved c = (
   simp length-set (omega arith),
-  words_more c.loop-i.bytes c.args.words c.to-le-bytes.result c.loop-i.i (omega arith) (omega arith) (omega arith) c.to-le-bytes.ensures c.loop-i.invariant.1,
+  words_more c.loop-i.bytes c.args.words c.to_le_bytes.result c.loop-i.i (omega arith) (omega arith) (omega arith) c.to_le_bytes.ensures c.loop-i.invariant.1,
 )
 
 pub returns : goal.returns

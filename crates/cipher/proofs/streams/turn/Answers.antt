@@ -8,7 +8,7 @@ use Rattle.cipher.proofs.streams.turn.Goals as goal
 pub loop-bytes-preserved : goal.loop-bytes-preserved
 loop-bytes-preserved c =
     going_more _ _ _ _ 4 c.loop-bytes.n _ c.loop-bytes.at c.min-end.result c.loop-bytes.bytes _ _ c.loop-bytes.invariant (omega arith) (omega arith)
-    c.four-blocks.ensures c.xor.ensures
+    c.four_blocks.ensures c.xor.ensures
 
 pub returns-then-at-bytes : goal.returns-then-at-bytes
 unfolding keystream

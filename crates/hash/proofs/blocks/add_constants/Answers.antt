@@ -1,6 +1,6 @@
 use Rattle.std.proofs.Common.{refl, arith}
 use Rattle.hash.specs.Sha256.{constants}
-use Rattle.hash.proofs.Schedules.{Summed, summed_more}
+use Rattle.hash.proofs.Schedules.{summed_more}
 use Rattle.hash.proofs.blocks.add_constants.Goals as goal
 
 pub loop-j-init : goal.loop-j-init

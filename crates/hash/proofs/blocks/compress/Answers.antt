@@ -14,7 +14,7 @@ loop-j-preserved c =
     let t : ℕ = 16 * c.loop-i.i + j in (
       rw c.extend.ensures
           (ring_more _ c.loop-j.w t _ j (j + 1) ((j + 9) % 16) ((j + 14) % 16) k.0 (omega arith) (omega arith) (omega arith) (omega arith) (omega arith) (omega arith)),
-      rounds_more _ _ c.loop-i.w c.add-constants-x.result c.loop-j.s _ _ _ j t _ c.step-next.ensures c.add-constants-x.ensures c.loop-i.invariant.0 refl (omega arith) refl (omega arith) k.1 (omega arith),
+      rounds_more _ _ c.loop-i.w c.add_constants-x.result c.loop-j.s _ _ _ j t _ c.step-next.ensures c.add_constants-x.ensures c.loop-i.invariant.0 refl (omega arith) refl (omega arith) k.1 (omega arith),
     )
 
 pub loop-j-2-preserved : goal.loop-j-2-preserved
@@ -24,16 +24,16 @@ loop-j-2-preserved c =
     let t : ℕ = 16 * c.loop-i.i + j in (
       rw c.extend-in-loop-j-2.ensures
           (ring_more _ c.loop-j-2.w t _ j ((j + 1) % 16) ((j + 9) % 16) ((j + 14) % 16) k.0 (omega arith) (omega arith) (omega arith) (omega arith) (omega arith) (omega arith)),
-      rounds_more _ _ c.loop-i.w c.add-constants-x.result c.loop-j-2.s _ _ _ j t _ c.step-next-in-loop-j-2.ensures c.add-constants-x.ensures c.loop-i.invariant.0 refl (omega arith) refl (omega arith) k.1 (omega arith),
+      rounds_more _ _ c.loop-i.w c.add_constants-x.result c.loop-j-2.s _ _ _ j t _ c.step-next-in-loop-j-2.ensures c.add_constants-x.ensures c.loop-i.invariant.0 refl (omega arith) refl (omega arith) k.1 (omega arith),
     )
 
 pub loop-j-3-preserved : goal.loop-j-3-preserved
 loop-j-3-preserved c =
-    rounds_more _ _ c.loop-i.w c.add-constants-x-2.result c.loop-j-3.s _ 48 (16 * c.loop-i.i) c.loop-j-3.j _ _ c.step-next-in-loop-j-3.ensures c.add-constants-x-2.ensures c.loop-i.invariant.0 (omega arith) (omega arith) (omega arith) (omega arith) c.loop-j-3.invariant (omega arith)
+    rounds_more _ _ c.loop-i.w c.add_constants-x-2.result c.loop-j-3.s _ 48 (16 * c.loop-i.i) c.loop-j-3.j _ _ c.step-next-in-loop-j-3.ensures c.add_constants-x-2.ensures c.loop-i.invariant.0 (omega arith) (omega arith) (omega arith) (omega arith) c.loop-j-3.invariant (omega arith)
 
 pub loop-j-4-preserved : goal.loop-j-4-preserved
 loop-j-4-preserved c =
-    rounds_more _ _ c.loop-i.w c.add-constants-x-2.result c.loop-j-4.s _ 48 (16 * c.loop-i.i) c.loop-j-4.j _ _ c.step-next-in-loop-j-4.ensures c.add-constants-x-2.ensures c.loop-i.invariant.0 (omega arith) (omega arith) (omega arith) (omega arith) c.loop-j-4.invariant (omega arith)
+    rounds_more _ _ c.loop-i.w c.add_constants-x-2.result c.loop-j-4.s _ 48 (16 * c.loop-i.i) c.loop-j-4.j _ _ c.step-next-in-loop-j-4.ensures c.add_constants-x-2.ensures c.loop-i.invariant.0 (omega arith) (omega arith) (omega arith) (omega arith) c.loop-j-4.invariant (omega arith)
 
 pub returns : goal.returns
 unfolding compressed

@@ -1,7 +1,6 @@
 use Rattle.std.proofs.Common.{refl, arith}
-use Rattle.std.proofs.lemmas.List.{take_all}
 use Rattle.hash.specs.Sha256.{schedule}
-use Rattle.hash.proofs.Schedules.{Words, loaded_all, loaded_more}
+use Rattle.hash.proofs.Schedules.{loaded_all, loaded_more}
 use Rattle.hash.proofs.blocks.load.Goals as goal
 
 pub loop-t-init : goal.loop-t-init

@@ -1,5 +1,5 @@
 use Rattle.std.proofs.Common.{refl, arith}
-use Rattle.hash.proofs.Similar.{Agree, agree_all, agree_more}
+use Rattle.hash.proofs.Similar.{agree_all, agree_more}
 use Rattle.hash.proofs.comparisons.equal.Goals as goal
 
 pub loop-i-init : goal.loop-i-init

@@ -1,4 +1,4 @@
-use Rattle.std.proofs.Common.{◌≡◌, ℕ, ◌<◌, length, get_or, ap, ◌∙◌, arith, length-append, length-drop, length-take}
+use Rattle.std.proofs.Common.{◌≡◌, length, get_or, ap, ◌∙◌, arith, length-append, length-drop, length-take}
 use lib.Bits.{bit_xor}
 use lib.ListN.{length-map}
 use Rattle.std.proofs.lemmas.List.Edits.{map_over_more}

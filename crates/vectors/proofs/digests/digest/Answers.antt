@@ -19,5 +19,5 @@ loop-i-preserved c = rw add-one (c.update-hasher.ensures _ c.loop-i.invariant)
 
 pub returns : goal.returns
 returns c =
-    let n : c.loop-i.-i ≡ c.args.times = omega arith in
+    let n : c.loop-i._i ≡ c.args.times = omega arith in
     c.finish.ensures _ (c.loop-i.invariant ∙ ap (λ i. after (repeated c.args.part.now i)) n)

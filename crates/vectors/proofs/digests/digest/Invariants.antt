@@ -4,4 +4,4 @@ use Rattle.vectors.specs.Repeats.{repeated}
 use Rattle.vectors.proofs.digests.digest.Given as goal
 
 abbrev pub invariant-loop-i : goal.invariant-loop-i
-invariant-loop-i l = l.hasher ≡ after (repeated l.part l.-i)
+invariant-loop-i l = l.hasher ≡ after (repeated l.part l._i)

@@ -6,4 +6,4 @@ use Rattle.hash.proofs.keys.Key.begin.Goals as goal
 
 pub returns : goal.returns
 unfolding prepared
-returns c = λ k e. c.after-block.ensures (inner_pad k) (length_inner k) (ap (λ s. s.inner) e)
+returns c = λ k e. c.after_block.ensures (inner_pad k) (length_inner k) (ap (λ s. s.inner) e)
