@@ -1,4 +1,5 @@
 //! Tests of what survives when power is lost at any byte.
+#![tactic(auto)]
 
 mod failures;
 #[cfg(test)]

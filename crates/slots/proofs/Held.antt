@@ -1,12 +1,10 @@
 -- A place holds what was written to it, and which of two holds the latest.
-use Rattle.std.proofs.Common.{◌≡◌, ℕ, suc, ◌+◌, ◌*◌, ◌/◌, ◌%◌, ◌^◌, ◌<◌, ◌≤◌, Bool, true, false, cond, ltb, ◌⊎◌, List, [], ◌∷◌, ◌++◌, length, take, drop, Some, None, Decides, Option, sym, refl, ap, ◌∙◌, subst, inl, inr, arith, length-append}
-use Rattle.std.specs.Str.{bytes_eq}
+use Rattle.std.proofs.Common.{◌≡◌, ℕ, ◌+◌, ◌*◌, ◌/◌, ◌%◌, ◌^◌, ◌<◌, ◌≤◌, Bool, true, false, cond, ltb, ◌⊎◌, List, [], ◌++◌, length, take, drop, Some, None, Decides, Option, sym, refl, ap, ◌∙◌, subst, inl, inr, arith, length-append}
 use Rattle.std.proofs.lemmas.List.{take_all, take_at, drop_all, append-nil, length-drop}
 use Rattle.std.proofs.lemmas.Bool.Decides.{same_from_decides}
 use Rattle.hash.proofs.Sizes.{length_sha256}
 use Rattle.std.proofs.lemmas.Slice.Eq.{bytes_eq-Decides}
 use Rattle.hash.specs.Sha256.{sha256}
-use Rattle.hash.specs.Words.{be64}
 use Rattle.slots.specs.Places.{Places, other, at_side, with_place, text, place_of, fits, marks_in, held, age, later_of, latest}
 use Rattle.slots.specs.declared.marks.Marks.{Marks}
 use Rattle.slots.specs.declared.marks.Side.{Side}

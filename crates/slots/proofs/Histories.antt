@@ -1,12 +1,12 @@
 -- Over any sequence of commands and power losses.
-use Rattle.std.proofs.Common.{◌≡◌, ℕ, suc, ◌+◌, ◌^◌, ◌<◌, ◌≤◌, Bool, true, false, cond, T, ltb, ◌⊎◌, List, [], ◌∷◌, length, Some, None, Option, sym, refl, ap, ◌∙◌, subst, inl, inr, arith, ltb→lt}
-use Rattle.slots.specs.Places.{Places, other, at_side, with_place, place_of, fits, held, age, latest, new_places}
+use Rattle.std.proofs.Common.{◌≡◌, ℕ, suc, ◌+◌, ◌^◌, ◌<◌, ◌≤◌, Bool, true, false, cond, T, ltb, ◌⊎◌, List, [], ◌∷◌, length, Some, None, Option, sym, refl, subst, inl, inr, arith, ltb→lt}
+use Rattle.slots.specs.Places.{Places, other, at_side, with_place, place_of, fits, held, age}
 use Rattle.slots.specs.declared.marks.Act.{Act}
 use Rattle.slots.specs.declared.marks.Act.TheVariants.{Counting, Closing}
 use Rattle.slots.specs.declared.marks.Marks.{Marks}
 use Rattle.slots.specs.declared.marks.Side.{Side}
 use Rattle.slots.specs.declared.marks.Side.TheVariants.{First}
-use Rattle.slots.specs.Histories.{next, may, Chip, Event, On, Does, Cut, written, doing, cutting, after, CutLeaves, finally, AllLeave, given_by, given, told_by, cut_by, told, closings_cut, Falling, new_chip, Kept, Survives}
+use Rattle.slots.specs.Histories.{next, Chip, Event, On, Does, Cut, written, doing, cutting, after, CutLeaves, finally, AllLeave, given_by, given, told_by, cut_by, told, closings_cut, Falling, new_chip, Survives}
 use Rattle.slots.proofs.Held.{Good, held_place, held_none, latest_good, good_newer, good_junk, good_same}
 
 -- ns: numbers given out so far; t: the counter told last, and counts cut since; k: closings cut so far

@@ -1,8 +1,7 @@
 -- An act that was written is the one of the chip's history.
-use Rattle.std.proofs.Common.{◌≡◌, ℕ, Bool, true, false, cond, List, Some, None, Option, sym, refl, ap, ◌∙◌}
+use Rattle.std.proofs.Common.{◌≡◌, ℕ, true, false, cond, List, Some, Option, sym, ap, ◌∙◌}
 use Rattle.slots.specs.declared.marks.Act.{Act}
 use Rattle.slots.specs.declared.marks.Marks.{Marks}
-use Rattle.slots.specs.declared.marks.Outcome.{Outcome}
 use Rattle.slots.specs.declared.marks.Outcome.TheVariants.{Done, UsedUp}
 use Rattle.slots.specs.declared.marks.Side.{Side}
 use Rattle.slots.specs.Histories.{Chip, next, may, written, doing}

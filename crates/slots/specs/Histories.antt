@@ -1,6 +1,5 @@
 -- What happens to a chip's two places over any sequence of commands and power losses.
-use Rattle.std.specs.Prelude.{◌≡◌, ℕ, suc, ◌+◌, ◌^◌, ◌<◌, ◌≤◌, Bool, true, false, cond, ◌⊎◌, List, [], ◌∷◌, length, Some, None, Option, nat_lt}
-use mathlib.Core.List.{Memᴰ}
+use Rattle.std.specs.Prelude.{◌≡◌, ℕ, suc, ◌+◌, ◌^◌, ◌<◌, ◌≤◌, Bool, false, cond, ◌⊎◌, List, [], ◌∷◌, length, Some, None, Option, nat_lt}
 use Rattle.slots.specs.Places.{Places, other, at_side, with_place, place_of, fits, latest, new_places}
 use Rattle.slots.specs.declared.marks.Act.{Act}
 use Rattle.slots.specs.declared.marks.Act.TheVariants.{Counting, Closing}

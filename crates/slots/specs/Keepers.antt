@@ -1,12 +1,12 @@
 -- What a keeper does with each act: which event of a chip's history that is, and what it answers.
-use Rattle.std.specs.Prelude.{◌≡◌, ℕ, Bool, true, false, cond, List, [], Some, None, Option}
+use Rattle.std.specs.Prelude.{ℕ, Bool, true, false, cond, List, [], Some, None, Option}
 use Rattle.slots.specs.declared.keepers.Keeper.{Keeper}
 use Rattle.slots.specs.declared.marks.Act.{Act}
 use Rattle.slots.specs.declared.marks.Marks.{Marks}
 use Rattle.slots.specs.declared.marks.Outcome.{Outcome}
 use Rattle.slots.specs.declared.marks.Outcome.TheVariants.{Done, UsedUp, NoPlace, Lost}
 use Rattle.slots.specs.declared.marks.Side.{Side}
-use Rattle.slots.specs.Histories.{Chip, On, Does, Cut, may, after}
+use Rattle.slots.specs.Histories.{Chip, Does, Cut, may, after}
 use Rattle.slots.specs.Places.{Places, other, at_side}
 
 -- a keeper as a chip between two events

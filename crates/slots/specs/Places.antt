@@ -1,5 +1,5 @@
 -- Two places that hold counter and number, each with a sum: which of them holds the latest, and what a write leaves.
-use Rattle.std.specs.Prelude.{◌≡◌, ℕ, ◌+◌, ◌*◌, ◌^◌, Bool, true, false, cond, List, [], ◌∷◌, ◌++◌, take, drop, Some, None, Option, nat_lt, slice_index}
+use Rattle.std.specs.Prelude.{◌≡◌, ℕ, ◌+◌, ◌*◌, ◌^◌, Bool, true, false, cond, List, ◌++◌, take, drop, Some, None, Option, nat_lt, slice_index}
 use Rattle.std.specs.Str.{bytes_eq}
 use Rattle.hash.specs.Sha256.{sha256}
 use Rattle.hash.specs.Words.{be64}

@@ -5,8 +5,8 @@ use Rattle.std.proofs.lemmas.Slice.Eq.{bytes_eq-Decides}
 use Rattle.std.proofs.lemmas.List.{take_at, drop_at}
 use Rattle.hash.specs.Sha256.{sha256}
 use Rattle.hash.proofs.Sizes.{length_sha256}
-use Rattle.sums.specs.Sums.{zeros, sum_by}
-use Rattle.sums.specs.Collisions.{Digests, Clash, Zeros, Colliding, Sha256Collides}
+use Rattle.sums.specs.Sums.{sum_by}
+use Rattle.sums.specs.Collisions.{Clash, Zeros, Colliding, Sha256Collides}
 
 sum_length : (h : List ℕ → List ℕ) → ((x : List ℕ) → length (h x) ≡ 32) → (r : List (List ℕ)) → length (sum_by h r) ≡ 32
 sum_length h long [] = refl

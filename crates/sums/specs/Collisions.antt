@@ -1,5 +1,5 @@
 -- Two rows with one sum are two texts with one hash, or a text whose hash is 32 zeros: for any hash of 32 bytes.
-use Rattle.std.specs.Prelude.{◌≡◌, ℕ, ◌⊎◌, List, [], ◌∷◌, ◌++◌, length}
+use Rattle.std.specs.Prelude.{◌≡◌, ℕ, ◌⊎◌, List, [], ◌∷◌, length}
 use Rattle.hash.specs.Sha256.{sha256}
 use Rattle.sums.specs.Sums.{zeros, sum_by, sum_of}
 

@@ -1,4 +1,4 @@
-use Rattle.std.proofs.Common.{◌≡◌, ◌++◌, length, replicate, refl, ap, ◌∙◌, arith}
+use Rattle.std.proofs.Common.{◌++◌, length, replicate, refl, ap, ◌∙◌}
 use Rattle.hash.proofs.Sizes.{length_sha256}
 use Rattle.hash.specs.Sha256.{sha256}
 use Rattle.slots.proofs.Held.{two_parts}

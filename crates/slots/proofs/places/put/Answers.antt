@@ -7,5 +7,5 @@ returns c =
     let n = length c.args.part.now in
     let after = drop-drop (c.args.at + n - c.args.at) c.args.at c.args.place.now in
     let end : c.args.at + (c.args.at + n - c.args.at) ≡ c.args.at + n = omega arith in
-    let copied = c.copy-from-slice.ensures.after in
+    let copied = c.copy_from_slice.ensures.after in
     cc
