@@ -1,5 +1,5 @@
 -- The tests on texts and names decide what they say.
-use Rattle.std.proofs.Common.{◌≡◌, ℕ, List, Decides, ap}
+use Rattle.std.proofs.Common.{◌≡◌, ℕ, List, Decides}
 use Rattle.std.proofs.lemmas.Slice.Eq.{bytes_eq-Decides}
 use Rattle.script.specs.declared.labels.Label.{Label}
 use Rattle.script.specs.Texts.{same_text}

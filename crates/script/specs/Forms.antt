@@ -1,5 +1,5 @@
 -- The form of each line: what stands at its places, whether programs follow, and with which word and name it ends.
-use Rattle.std.specs.Prelude.{ℕ, ◌-◌, ◌^◌, Bool, true, false, cond, ◌&&◌, List, [], ◌∷◌, map, length, take, Some, None, Option, ◌==◌, nat_le, nat_lt, slice_index_or}
+use Rattle.std.specs.Prelude.{ℕ, ◌-◌, Bool, true, false, cond, ◌&&◌, List, [], ◌∷◌, map, length, take, Some, None, Option, ◌==◌, nat_le, nat_lt, slice_index_or}
 use Rattle.std.specs.Borrow.{Bor}
 use Rattle.script.specs.declared.faults.Fault.{Fault}
 use Rattle.script.specs.declared.faults.Fault.TheVariants.{Unknown, Shape}
@@ -12,7 +12,7 @@ use Rattle.script.specs.declared.verbs.Verb.{Verb}
 use Rattle.script.specs.declared.verbs.Verb.TheVariants.{Fleet, Wipe, File, FileThen, ListFurther, Switch, Start, Load, Put, Run, Sign, Count, Read, Keep, Close, Open, CutCount, CutClose, Chip, Good, Rows, Ticks, Ask, Answer, Fall, Net, Has}
 use Rattle.script.specs.declared.verbs.Verb.TheVariants as verb
 use Rattle.script.specs.Texts.{same_text}
-use Rattle.script.specs.Verbs.{verbs, verb_text, key_text}
+use Rattle.script.specs.Verbs.{verb_text, key_text}
 
 -- the words of a line
 abbrev pub Words : Type 0

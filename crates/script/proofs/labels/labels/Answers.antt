@@ -10,7 +10,7 @@ returns-in-Err c = err_met (Vec Label Global) c.in-Err.why _ (labels_next (vec_i
 
 pub loop-i-preserved : goal.loop-i-preserved
 loop-i-preserved c =
-    let items : vec_items c.push.new.self ≡ vec_items c.loop-i.labels ++ c.in-Ok.label ∷ [] = c.push.ensures.items ∙ ap (λ b. cond b (vec_items c.loop-i.labels ++ c.in-Ok.label ∷ []) (vec_items c.loop-i.labels)) c.if-is-err.ensures.negation in
+    let items : vec_items c.push.new.self ≡ vec_items c.loop-i.labels ++ c.in-Ok.label ∷ [] = c.push.ensures.items ∙ ap (λ b. cond b (vec_items c.loop-i.labels ++ c.in-Ok.label ∷ []) (vec_items c.loop-i.labels)) c.if-is_err.ensures.negation in
     ap (λ ls. labels_of ls (drop (c.loop-i.i + 1) c.args.words.now)) items ∙ labels_next (vec_items c.loop-i.labels) _ c.loop-i.i _ (Ok c.in-Ok.label) _ c.loop-i-test.true c.in-Ok.ensures c.loop-i.invariant
 
 pub returns : goal.returns

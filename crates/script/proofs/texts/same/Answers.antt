@@ -1,6 +1,6 @@
-use Rattle.std.proofs.lemmas.Bool.Decides.{same_from_decides}
 use Rattle.script.proofs.texts.same.Goals as goal
-use Rattle.script.proofs.Tests.{same_text_decides}
+use Rattle.script.specs.Texts.{same_text}
 
 pub returns : goal.returns
-returns c = same_from_decides _ _ c.eq.ensures (same_text_decides _ _)
+unfolding same_text
+returns c = c.eq.ensures
