@@ -5,7 +5,6 @@ use Rattle.device.specs.declared.chips.Answer.TheVariants as answer
 use Rattle.device.specs.declared.chips.Chip.{Chip}
 use Rattle.device.specs.declared.chips.Command.TheVariants as command
 use Rattle.device.specs.declared.digests.Data.{Data}
-use Rattle.device.specs.declared.digests.Digest.{Digest}
 use Rattle.device.specs.declared.registers.Register.{Register}
 use Rattle.device.specs.Commands as chip
 use Rattle.device.specs.Rows.{pushed}
@@ -13,8 +12,6 @@ use Rattle.boot.specs.declared.disks.Entry.{Entry}
 use Rattle.boot.specs.declared.machines.Machine.{Machine}
 use Rattle.fleet.specs.declared.fleets.Act.{Act}
 use Rattle.fleet.specs.declared.fleets.Act.TheVariants.{Switch, Start, Load, Give, Keep, Run, CutCount, CutClose}
-use Rattle.fleet.specs.declared.fleets.Event.{Event}
-use Rattle.fleet.specs.declared.fleets.Event.TheVariants.{At}
 use Rattle.fleet.specs.declared.fleets.Report.{Report}
 use Rattle.fleet.specs.declared.fleets.Report.TheVariants.{Nobody}
 use Rattle.fleet.specs.Sights.{Sight, with_machine, with_disk, hearing, showing, shown_by, tainted, opening_told, running, acted, machine_at}

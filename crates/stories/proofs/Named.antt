@@ -1,6 +1,5 @@
 -- Every question that is open asks with something that was drawn.
-use Rattle.std.proofs.Common.{◌≡◌, ℕ, zero, suc, ◌+◌, ◌<◌, Bool, true, false, cond, ◌&&◌, T, eqb, ltb, ◌⊎◌, List, [], ◌∷◌, ◌++◌, length, get_or, take, drop, is_some, Some, None, Option, sym, refl, ap, ◌∙◌, subst, inl, inr, arith, ltb→lt}
-use Rattle.std.specs.List.{remove}
+use Rattle.std.proofs.Common.{◌≡◌, ℕ, zero, suc, ◌+◌, ◌<◌, Bool, true, false, cond, eqb, ltb, List, [], ◌∷◌, ◌++◌, length, get_or, take, drop, is_some, Some, None, Option, sym, refl, ap, subst, inl, inr, arith}
 use Rattle.std.proofs.lemmas.Bool.{and_parts}
 use Rattle.device.specs.declared.digests.Data.{Data}
 use Rattle.device.specs.declared.digests.Digest.{Digest}
@@ -20,13 +19,12 @@ use Rattle.verifier.specs.Ages.{older, aged}
 use Rattle.verifier.specs.Searches.{some, seek, place, has_number, asks}
 use Rattle.verifier.specs.Rows.{gathered}
 use Rattle.verifier.specs.Seats.{Seat, new_seat, new_question, begins, signs, list_by, ask_by, answer_by, answer_at, answer_of, office_of, net_of}
-use Rattle.fleet.specs.declared.fleets.Act.{Act}
 use Rattle.fleet.specs.declared.fleets.Event.{Event}
 use Rattle.fleet.specs.declared.fleets.Event.TheVariants.{At, Office, Net, Fall, Write, Wipe}
 use Rattle.fleet.specs.declared.fleets.Report.{Report}
 use Rattle.fleet.specs.declared.fleets.Report.TheVariants.{Done, Nobody, NoMemory}
 use Rattle.fleet.specs.Runs.{Allowed}
-use Rattle.fleet.specs.Sights.{Sight, machine_at, seat_at, with_seat, acted, judged, played}
+use Rattle.fleet.specs.Sights.{Sight, seat_at, with_seat, judged, played}
 use Rattle.fleet.specs.Worlds.{Setting, WordAllowed}
 use Rattle.stories.proofs.Blind.{Blind, act_blind}
 use Rattle.fleet.proofs.Plays.{in_range}

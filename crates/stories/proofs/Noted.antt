@@ -1,9 +1,8 @@
 -- Every signature that outsiders can have was noted when the chip gave it out.
-use Rattle.std.proofs.Common.{◌≡◌, ℕ, ◌<◌, Bool, true, false, cond, ◌&&◌, ltb, ◌⊎◌, List, [], ◌∷◌, length, Some, None, Option, sym, refl, ap, ◌∙◌, subst, inl, inr}
+use Rattle.std.proofs.Common.{◌≡◌, ℕ, Bool, true, false, cond, ◌&&◌, ltb, ◌⊎◌, List, [], ◌∷◌, length, Some, None, Option, sym, refl, ap, subst, inl, inr}
 use mathlib.Core.List.{Memᴰ}
 use Rattle.model.specs.Term as term
 use Rattle.model.specs.Term.{Term}
-use Rattle.model.specs.World as world
 use Rattle.model.specs.World.{World}
 use Rattle.model.specs.Effect as effect
 use Rattle.model.proofs.Knowledge.{Safe, safe_map}
@@ -28,7 +27,7 @@ use Rattle.fleet.specs.declared.fleets.Event.TheVariants.{At, Office, Net, Fall,
 use Rattle.fleet.specs.declared.fleets.Shown.{Shown}
 use Rattle.fleet.specs.Runs.{Allowed, after_at, after}
 use Rattle.fleet.specs.Sights.{Sight, machine_at, seat_at, tainted}
-use Rattle.fleet.specs.Worlds.{Setting, term_by, term_of, Brought, room, may_count, may_close, fits, ActAllowed, WordAllowed, after_load, after_open, opened_by, after_act, when_done, when_accepts, after_word, after_net}
+use Rattle.fleet.specs.Worlds.{Setting, term_by, term_of, Brought, room, may_count, may_close, fits, ActAllowed, after_load, opened_by, after_act, when_done, after_word, after_net}
 
 abbrev Free : ℕ → Type 0
 Free n = Unit {0}

@@ -1,5 +1,5 @@
 -- What really ran.
-use Rattle.std.proofs.Common.{◌≡◌, ℕ, ◌<◌, Bool, true, false, cond, ◌&&◌, T, eqb, ltb, ◌⊎◌, List, [], ◌∷◌, map, reverse, length, Some, None, Option, sym, refl, ap, ◌∙◌, subst, inl, inr, true≢false, arith, ltb→lt}
+use Rattle.std.proofs.Common.{◌≡◌, ℕ, ◌<◌, Bool, true, false, cond, ◌&&◌, eqb, ltb, ◌⊎◌, List, [], ◌∷◌, map, reverse, length, Some, None, Option, sym, refl, ap, ◌∙◌, subst, inl, inr, true≢false, arith}
 use mathlib.Core.List.Memᴰ
 use mathlib.Core.List.{Memᴰ}
 use Rattle.model.specs.Term.{Derives}
@@ -9,17 +9,11 @@ use Rattle.model.specs.Run.{Run, here, onward, Moment}
 use Rattle.model.proofs.Knowledge.{derives_safe}
 use Rattle.model.proofs.Moments.{now, then}
 use Rattle.verifier.proofs.Searches.{seek_member}
-use Rattle.device.specs.declared.chips.Answer.{Answer}
-use Rattle.device.specs.declared.chips.Answer.TheVariants as answer
-use Rattle.device.specs.declared.chips.Chip.{Chip}
-use Rattle.device.specs.declared.chips.Command.{Command}
 use Rattle.device.specs.declared.chips.Command.TheVariants as command
 use Rattle.device.specs.declared.digests.Data.{Data}
 use Rattle.device.specs.declared.digests.Digest.{Digest}
 use Rattle.device.specs.declared.registers.Register.{Register}
-use Rattle.device.specs.Commands as chip
-use Rattle.device.specs.Rows.{words, pushed}
-use Rattle.boot.specs.declared.machines.Machine.{Machine}
+use Rattle.device.specs.Rows.{words}
 use Rattle.verifier.specs.declared.judges.Said.{Said}
 use Rattle.verifier.specs.declared.judges.Said.TheVariants as said
 use Rattle.verifier.specs.declared.judges.Word.{Word}
@@ -41,14 +35,12 @@ use Rattle.verifier.specs.Searches.{some, seek, place, has_number, asks}
 use Rattle.verifier.specs.Seats.{Seat, with_questions, listed, signs, new_question, answer_by, answer_at, answer_of, office_of, net_of}
 use Rattle.verifier.specs.Worlds.{question_of}
 use Rattle.fleet.proofs.Words.{answer_true}
-use Rattle.fleet.specs.declared.fleets.Act.{Act}
-use Rattle.fleet.specs.declared.fleets.Act.TheVariants.{Switch, Start, Load, Give, Keep, Run as RunBad, CutCount, CutClose}
+use Rattle.fleet.specs.declared.fleets.Act.TheVariants.{Give}
 use Rattle.fleet.specs.declared.fleets.Event.{Event}
 use Rattle.fleet.specs.declared.fleets.Event.TheVariants.{At, Office, Net, Fall, Write, Wipe}
-use Rattle.fleet.specs.declared.fleets.Report.{Report}
 use Rattle.fleet.specs.declared.fleets.Report.TheVariants.{Done, Nobody, NoMemory}
 use Rattle.fleet.specs.declared.fleets.Shown.{Shown}
-use Rattle.fleet.specs.Sights.{Sight, tainted, same_signature, ran_of, shown_by, opening_told, running, given, acted, judged, machine_at, seat_at, found, played}
+use Rattle.fleet.specs.Sights.{Sight, same_signature, ran_of, shown_by, acted, judged, machine_at, seat_at, found, played}
 use Rattle.fleet.specs.Worlds.{Setting, term_by, nonce_by, term_of, drawn, FleetStands, WordAllowed, Goes}
 use Rattle.fleet.specs.Runs.{Allowed, after, Happening, next, Ran, Ready, OfAccepted}
 use Rattle.stories.specs.Stories.{longer, Really, IfRan, RanClaim, Story, FleetStory}

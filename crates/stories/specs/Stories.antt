@@ -1,7 +1,6 @@
 -- What really ran: along a run of the world that goes with the events, each acceptance is reported with what had been loaded when the chip signed, and that is true of a moment of that run.
 use Rattle.std.specs.Prelude.{◌≡◌, ℕ, suc, List, [], ◌∷◌, Some, None, Option}
 use mathlib.Core.List.{Memᴰ}
-use Rattle.model.specs.Term.{Derives}
 use Rattle.model.specs.World.{Programs, World}
 use Rattle.model.specs.Effect.{made}
 use Rattle.model.specs.Run.{Run, here, onward, Moment}
@@ -13,10 +12,9 @@ use Rattle.verifier.specs.Seats.{new_question}
 use Rattle.verifier.specs.Worlds.{question_of}
 use Rattle.fleet.specs.declared.fleets.Event.{Event}
 use Rattle.fleet.specs.declared.fleets.Report.{Report}
-use Rattle.fleet.specs.declared.fleets.Shown.{Shown}
 use Rattle.fleet.specs.Makes.{Begins}
 use Rattle.fleet.specs.Sights.{Sight, found}
-use Rattle.fleet.specs.Worlds.{Setting, term_of, drawn, Goes}
+use Rattle.fleet.specs.Worlds.{Setting, drawn, Goes}
 use Rattle.fleet.specs.Runs.{Happening, next, after, Ran, Ready, OfEvent, Agrees}
 
 -- the run l, and then these steps
