@@ -14,6 +14,8 @@ import re
 FACTS = {"of-accepted": "OfAccepted", "of_word": "OfWord", "of-event": "OfEvent", "ran-claim": "IfRan", "cut-leaves": "CutLeaves"}
 # the word for a function of the same name in Rust
 APART = {n: n.replace("-", "_") + "_of" for n in ("any-bad", "before-suffix", "load-all", "quarter-at", "ran-for", "really-ran", "sealed-by")} | {"cases-hold": "cases_hold_lem"}
+# not kebab-case, but not snake case either
+CAMEL = {"allGood": "all_good"}
 # a lemma of the library has this name too, and a dash may join two names
 KEPT = {"length-zip2"}
 
@@ -58,7 +60,7 @@ def respelled(name):
 
 
 def main():
-    turned = {n: respelled(n) for n in declared()} | APART | FACTS
+    turned = {n: respelled(n) for n in declared()} | APART | FACTS | CAMEL
     for path in texts():
         with open(path, encoding="utf-8") as f:
             old = f.read()

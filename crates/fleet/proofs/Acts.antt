@@ -6,7 +6,7 @@ use Rattle.std.proofs.lemmas.List.{map-append}
 use Rattle.model.specs.Term as term
 use Rattle.model.specs.Term.{Term, Derives, has}
 use Rattle.model.specs.World as world
-use Rattle.model.specs.World.{Programs, World, allGood}
+use Rattle.model.specs.World.{Programs, World, all_good}
 use Rattle.model.specs.Effect as effect
 use Rattle.model.specs.Effect.{on_machine, honest}
 use Rattle.model.specs.Step as step
@@ -64,13 +64,13 @@ room_out r d false e is = refl
 room_none : (r : Register) (d : Digest) → pushed r d ≡ None → room r ≡ false
 room_none r d is = room_out r d (ltb r.len 16) refl is
 
-good_append : (g : term.Digest → Bool) (xs ys : List term.Digest) → allGood g (xs ++ ys) ≡ (allGood g xs && allGood g ys)
-unfolding allGood
+good_append : (g : term.Digest → Bool) (xs ys : List term.Digest) → all_good g (xs ++ ys) ≡ (all_good g xs && all_good g ys)
+unfolding all_good
 good_append g [] ys = refl
-good_append g (x ∷ xs) ys = ap (λ b. g x && b) (good_append g xs ys) ∙ sym (and_assoc (g x) (allGood g xs) (allGood g ys))
+good_append g (x ∷ xs) ys = ap (λ b. g x && b) (good_append g xs ys) ∙ sym (and_assoc (g x) (all_good g xs) (all_good g ys))
 
-good_one : (g : term.Digest → Bool) (d : term.Digest) → allGood g (d ∷ []) ≡ g d
-unfolding allGood
+good_one : (g : term.Digest → Bool) (d : term.Digest) → all_good g (d ∷ []) ≡ g d
+unfolding all_good
 good_one g d = and-true (g d)
 
 any_cons : (bad : List Digest) (d : Digest) (ds : List Digest) → any_bad_of bad (d ∷ ds) ≡ cond (some (is_digest d) bad) true (any_bad_of bad ds)
@@ -87,14 +87,14 @@ not_either true false = refl
 not_either false true = refl
 not_either false false = refl
 
-good_none : (g : term.Digest → Bool) → allGood g [] ≡ true
-unfolding allGood
+good_none : (g : term.Digest → Bool) → all_good g [] ≡ true
+unfolding all_good
 good_none g = refl
 
-good_not_bad : (g : term.Digest → Bool) (bad : List Digest) → ((d : Digest) → g d.bytes ≡ not (some (is_digest d) bad)) → (ds : List Digest) → allGood g (map (λ d. d.bytes) (reverse ds)) ≡ not (any_bad_of bad ds)
+good_not_bad : (g : term.Digest → Bool) (bad : List Digest) → ((d : Digest) → g d.bytes ≡ not (some (is_digest d) bad)) → (ds : List Digest) → all_good g (map (λ d. d.bytes) (reverse ds)) ≡ not (any_bad_of bad ds)
 good_not_bad g bad h [] = good_none g ∙ ap not (sym (any_nil bad))
 good_not_bad g bad h (d ∷ ds) =
-    ap (λ l. allGood g (map (λ d. d.bytes) l)) (reverse-cons d ds) ∙ ap (allGood g) (map-append (λ d. d.bytes) (reverse ds) (d ∷ [])) ∙ good_append g (map (λ d. d.bytes) (reverse ds)) (d.bytes ∷ []) ∙ (λ i. good_not_bad g bad h ds i && (good_one g d.bytes ∙ h d) i) ∙ not_either (some (is_digest d) bad) (any_bad_of bad ds) ∙ ap not (sym (any_cons bad d ds))
+    ap (λ l. all_good g (map (λ d. d.bytes) l)) (reverse-cons d ds) ∙ ap (all_good g) (map-append (λ d. d.bytes) (reverse ds) (d ∷ [])) ∙ good_append g (map (λ d. d.bytes) (reverse ds)) (d.bytes ∷ []) ∙ (λ i. good_not_bad g bad h ds i && (good_one g d.bytes ∙ h d) i) ∙ not_either (some (is_digest d) bad) (any_bad_of bad ds) ∙ ap not (sym (any_cons bad d ds))
 
 module _ (o : Setting) (s : Sight) (i : ℕ) (w : World) (below : i < length s.machines) (f : FleetStands o s w) where
   abbrev x : Machine
@@ -185,8 +185,8 @@ module _ (o : Setting) (s : Sight) (i : ℕ) (w : World) (below : i < length s.m
   still = record { steps = 0; run = here; stands = f }
 
   -- what the fleet knows of bad programs is so in the world
-  taint : (b : Bool) → tainted s x ≡ b → allGood o.programs.good (w.machines i).ran ≡ not b
-  taint b e = ap (allGood o.programs.good) (sym st.ran_is) ∙ good_not_bad o.programs.good s.bad f.good_is (row x.ran) ∙ ap not e
+  taint : (b : Bool) → tainted s x ≡ b → all_good o.programs.good (w.machines i).ran ≡ not b
+  taint b e = ap (all_good o.programs.good) (sym st.ran_is) ∙ good_not_bad o.programs.good s.bad f.good_is (row x.ran) ∙ ap not e
 
   put_goes : (d : Digest) (b : Bool) → tainted s x ≡ b → (p : Option Register) → pushed x.chip.register d ≡ p → Goes o (cond b (with_machine i (with_chip x (chip.put_of x.chip d).0) s) s) w (cond (b && room x.chip.register) (on_machine i (effect.put_unloaded d.bytes) w) w)
   put_goes d false e p is = still

@@ -6,7 +6,7 @@ use mathlib.Core.List.{List, Memᴰ}
 use Prim.Native.Nat.{ℕ, suc, ◌*◌, ◌<◌}
 use native.Mathlib.Omega.{arith}
 use Rattle.model.specs.Term.{Term, Digest, Derives}
-use Rattle.model.specs.World.{Programs, Question, Acceptance, World, allGood}
+use Rattle.model.specs.World.{Programs, Question, Acceptance, World, all_good}
 use Rattle.model.specs.Effect.{honest, statement, made}
 use Rattle.model.specs.Step.{Step}
 use Rattle.model.specs.Run.{Run, onward, Moment}
@@ -59,7 +59,7 @@ was {pr} l c asked t =
       moment = h.moment;
       asked_first = asked_by_then h.moment c.question asked (subst (λ u. Derives h.moment.world.heard u) (sym (same_given (honest c.question.nonce) h.given c.row _ h.is)) h.had);
       register_was = sym row_is;
-      ran_was = λ good. (sound h.moment.reached c.question.chip).rows.register_true (ap (allGood pr.good) (sym row_is) ∙ good) ∙ sym row_is;
+      ran_was = λ good. (sound h.moment.reached c.question.chip).rows.register_true (ap (all_good pr.good) (sym row_is) ∙ good) ∙ sym row_is;
     }
   where
     h : SignedOn l c.question.chip (statement (honest c.question.nonce) c.row)

@@ -7,7 +7,7 @@ use mathlib.Core.List.{List, [], ◌∷◌, Memᴰ}
 use Prim.Native.Nat.{ℕ, ◌≤◌, ◌<◌}
 use native.Mathlib.Omega.{arith}
 use Rattle.model.specs.Term.{Digest}
-use Rattle.model.specs.World.{Programs, Thing, Machine, World, allGood}
+use Rattle.model.specs.World.{Programs, Thing, Machine, World, all_good}
 use Rattle.model.specs.Effect.{at, made}
 use Rattle.model.specs.Step.{Step, switches, boots, loads, puts_only, loads_only, signs, counts, closes, closes_given, passes_over, opens, opens_told, takes_chip, takes_list, asks, puts_out, falls, accepts}
 use Rattle.model.specs.Run.{Run, here, onward}
@@ -17,12 +17,12 @@ use Rattle.model.proofs.Places.{at_all}
 
 -- ---- rows of good programs
 
-pub good_rest : (g : Digest → Bool) (p : Digest) (ps : List Digest) → allGood g (p ∷ ps) ≡ true → allGood g ps ≡ true
-unfolding allGood
+pub good_rest : (g : Digest → Bool) (p : Digest) (ps : List Digest) → all_good g (p ∷ ps) ≡ true → all_good g ps ≡ true
+unfolding all_good
 good_rest g p ps e = ((and-eq-true_iff (g p) _).0 e).1
 
-good_none : (g : Digest → Bool) → allGood g [] ≡ true
-unfolding allGood
+good_none : (g : Digest → Bool) → all_good g [] ≡ true
+unfolding all_good
 good_none g = refl
 
 -- both are empty, or both begin with the first program
@@ -36,8 +36,8 @@ begins_more pr p (r, e) = (p ∷ r, ap (λ l. p ∷ l) e)
 
 -- of its programs
 pub record Truthful (pr : Programs) (ran register : List Digest) : Type 0 where
-  pub good_told : allGood pr.good ran ≡ true → register ≡ ran
-  pub register_true : allGood pr.good register ≡ true → ran ≡ register
+  pub good_told : all_good pr.good ran ≡ true → register ≡ ran
+  pub register_true : all_good pr.good register ≡ true → ran ≡ register
   pub begun : Begun pr ran register
 
 -- of what it closed
@@ -60,27 +60,27 @@ not_both : {b : Bool} {A : Type 0} → b ≡ false → b ≡ true → A
 not_both no-good good = absurd (true≢false (sym good ∙ no-good))
 
 -- where a bad program was loaded something runs, and the register tells of a bad one too
-tainted_begun : (pr : Programs) (ran register : List Digest) → allGood pr.good ran ≡ false → Begun pr ran register → Begins pr ran × Begins pr register
-tainted_begun pr ran register t (inl (e, f)) = not_both t (ap (allGood pr.good) e ∙ good_none pr.good)
+tainted_begun : (pr : Programs) (ran register : List Digest) → all_good pr.good ran ≡ false → Begun pr ran register → Begins pr ran × Begins pr register
+tainted_begun pr ran register t (inl (e, f)) = not_both t (ap (all_good pr.good) e ∙ good_none pr.good)
 tainted_begun pr ran register t (inr b) = b
 
-tainted_told : {pr : Programs} {ran register : List Digest} {A : Type 0} → Truthful pr ran register → allGood pr.good ran ≡ false → allGood pr.good register ≡ true → A
-tainted_told {pr} s t e = not_both t (ap (allGood pr.good) (s.register_true e) ∙ e)
+tainted_told : {pr : Programs} {ran register : List Digest} {A : Type 0} → Truthful pr ran register → all_good pr.good ran ≡ false → all_good pr.good register ≡ true → A
+tainted_told {pr} s t e = not_both t (ap (all_good pr.good) (s.register_true e) ∙ e)
 
 -- a program is put in and not loaded, or loaded and not put in, where a bad one was loaded
-truthful_put : (pr : Programs) (p : Digest) (ran register : List Digest) → allGood pr.good ran ≡ false → Truthful pr ran register → Truthful pr ran (p ∷ register)
+truthful_put : (pr : Programs) (p : Digest) (ran register : List Digest) → all_good pr.good ran ≡ false → Truthful pr ran register → Truthful pr ran (p ∷ register)
 truthful_put pr p ran register t s =
     let b = tainted_begun pr ran register t s.begun in
     record { good_told = λ c. not_both t c; register_true = λ c. tainted_told s t (good_rest pr.good p register c); begun = inr (b.0, begins_more pr p b.1) }
 
-truthful_run : (pr : Programs) (p : Digest) (ran register : List Digest) → allGood pr.good ran ≡ false → Truthful pr ran register → Truthful pr (p ∷ ran) register
+truthful_run : (pr : Programs) (p : Digest) (ran register : List Digest) → all_good pr.good ran ≡ false → Truthful pr ran register → Truthful pr (p ∷ ran) register
 truthful_run pr p ran register t s =
     let b = tainted_begun pr ran register t s.begun in
     record { good_told = λ c. not_both t (good_rest pr.good p ran c); register_true = λ c. tainted_told s t c; begun = inr (begins_more pr p b.0, b.1) }
 
 -- the first program is loaded where nothing ran, and others where something does
 begun_first : (pr : Programs) {ran register : List Digest} → ran ≡ [] → Truthful pr ran register → Begun pr (pr.first ∷ ran) (pr.first ∷ register)
-begun_first pr e s = inr (([], ap (λ l. pr.first ∷ l) e), ([], ap (λ l. pr.first ∷ l) (s.good_told (ap (allGood pr.good) e ∙ good_none pr.good) ∙ e)))
+begun_first pr e s = inr (([], ap (λ l. pr.first ∷ l) e), ([], ap (λ l. pr.first ∷ l) (s.good_told (ap (all_good pr.good) e ∙ good_none pr.good) ∙ e)))
 
 begun_more : (pr : Programs) (p : Digest) {ran register : List Digest} {q : Digest} {qs : List Digest} → ran ≡ q ∷ qs → Truthful pr ran register → Begun pr (p ∷ ran) (p ∷ register)
 begun_more pr p {ran} {register} {q} {qs} e s = go s.begun

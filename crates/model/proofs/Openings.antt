@@ -7,7 +7,7 @@ use mathlib.Core.List.{◌∷◌, Memᴰ}
 use Prim.Native.Nat.{ℕ, ◌≤◌, ◌<◌}
 use native.Mathlib.Omega.{arith}
 use Rattle.model.specs.Term.{Derives, has}
-use Rattle.model.specs.World.{Programs, Target, Nowhere, Thing, Opening, World, allGood}
+use Rattle.model.specs.World.{Programs, Target, Nowhere, Thing, Opening, World, all_good}
 use Rattle.model.specs.Effect.{with_thing, counted, opening, made}
 use Rattle.model.specs.Step.{Opens, counts, closes, closes_given, opens, opens_told}
 use Rattle.model.specs.Run.{Run, here, onward}
@@ -29,10 +29,10 @@ closing w v a r x e for same =
 openable : {pr : Programs} {k : ℕ} {w : World} (l : Run pr k made w) (a : ℕ) (x : Thing) → Fits x (w.machines a) → Opens a x w
 openable l a x f = record { given_out = f.there; at_hand = (knows l).handed_out a x f.there; target_fits = f.register_fits; counter_fits = f.counter_fits }
 
-opens_it : {pr : Programs} {k : ℕ} {w : World} (l : Run pr k made w) (a : ℕ) (x : Thing) → Fits x (w.machines a) → Can pr w 1 (λ v. (v.opened ≡ opening a x ∷ w.opened) × (v.machines ≡ w.machines) × (allGood pr.good (w.machines a).ran ≡ false → Derives v.heard x.what))
-opens_it {pr} {w = w} l a x f = go (allGood pr.good (w.machines a).ran) refl
+opens_it : {pr : Programs} {k : ℕ} {w : World} (l : Run pr k made w) (a : ℕ) (x : Thing) → Fits x (w.machines a) → Can pr w 1 (λ v. (v.opened ≡ opening a x ∷ w.opened) × (v.machines ≡ w.machines) × (all_good pr.good (w.machines a).ran ≡ false → Derives v.heard x.what))
+opens_it {pr} {w = w} l a x f = go (all_good pr.good (w.machines a).ran) refl
   where
-    go : (b : Bool) → allGood pr.good (w.machines a).ran ≡ b → Can pr w 1 (λ v. (v.opened ≡ opening a x ∷ w.opened) × (v.machines ≡ w.machines) × (allGood pr.good (w.machines a).ran ≡ false → Derives v.heard x.what))
+    go : (b : Bool) → all_good pr.good (w.machines a).ran ≡ b → Can pr w 1 (λ v. (v.opened ≡ opening a x ∷ w.opened) × (v.machines ≡ w.machines) × (all_good pr.good (w.machines a).ran ≡ false → Derives v.heard x.what))
     go true e = (_, onward here (opens w a x (openable l a x f) e), (refl, refl, λ t. absurd (true≢false (sym e ∙ t))))
     go false e = (_, onward here (opens_told w a x (openable l a x f) e), (refl, refl, λ _. has (Memᴰ.head refl)))
 

@@ -5,7 +5,7 @@ use mathlib.Core.List.{List, Memᴰ}
 use Prim.Native.Nat.{ℕ}
 use native.Mathlib.Omega.{arith}
 use Rattle.model.specs.Term.{Digest, Derives}
-use Rattle.model.specs.World.{Programs, For, Nowhere, Thing, World, allGood}
+use Rattle.model.specs.World.{Programs, For, Nowhere, Thing, World, all_good}
 use Rattle.model.specs.Effect.{made}
 use Rattle.model.specs.Run.{Run}
 use Rattle.model.specs.Promise.{Leaked, Secrecy}
@@ -22,12 +22,12 @@ leaks {pr} l a x m secret d =
     subst (λ p. Public l p) for (safe n refl)
 
 -- it cannot have leaked from a register of good programs alone, as that tells what was loaded
-good_unleaked : {pr : Programs} {k : ℕ} {w : World} {l : Run pr k made w} (a : ℕ) (x : Thing) (row : List Digest) → x.target ≡ For row → allGood pr.good row ≡ true → Leaked pr l a x → ⊥
+good_unleaked : {pr : Programs} {k : ℕ} {w : World} {l : Run pr k made w} (a : ℕ) (x : Thing) (row : List Digest) → x.target ≡ For row → all_good pr.good row ≡ true → Leaked pr l a x → ⊥
 good_unleaked {pr} a x row e good h =
     let same : (h.moment.world.machines a).register ≡ row = cc (e, h.fitted.register_fits) in
-    let told : allGood pr.good (h.moment.world.machines a).register ≡ true = ap (allGood pr.good) same ∙ good in
+    let told : all_good pr.good (h.moment.world.machines a).register ≡ true = ap (all_good pr.good) same ∙ good in
     let ran = (sound h.moment.reached a).rows.register_true told in
-    absurd (true≢false (sym (ap (allGood pr.good) ran ∙ told) ∙ h.tainted))
+    absurd (true≢false (sym (ap (all_good pr.good) ran ∙ told) ∙ h.tainted))
 
 nowhere_unleaked : {pr : Programs} {k : ℕ} {w : World} {l : Run pr k made w} (a : ℕ) (x : Thing) → x.target ≡ Nowhere → Leaked pr l a x → ⊥
 nowhere_unleaked a x e h = let contrary : ◌≡◌ {A = ℕ} 0 1 = cc (e, h.fitted.register_fits) in absurd (omega arith)

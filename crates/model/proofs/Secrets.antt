@@ -7,7 +7,7 @@ use mathlib.Core.List.{◌∷◌, Memᴰ}
 use Prim.Native.Nat.{ℕ, suc, ◌+◌, ◌*◌}
 use native.Mathlib.Omega.{arith}
 use Rattle.model.specs.Term.{Term, Nonce, Sealed, Derives, has}
-use Rattle.model.specs.World.{Programs, Thing, Machine, Question, World, allGood}
+use Rattle.model.specs.World.{Programs, Thing, Machine, Question, World, all_good}
 use Rattle.model.specs.Effect.{at, honest, statement, made}
 use Rattle.model.specs.Step.{Step, switches, boots, loads, puts_only, loads_only, signs, counts, closes, closes_given, passes_over, opens, opens_told, takes_chip, takes_list, asks, puts_out, falls, accepts}
 use Rattle.model.specs.Run.{Run, here, onward, Moment}
@@ -164,7 +164,7 @@ module _ {pr : Programs} {k : ℕ} {w v : World} {l : Run pr k made w} (s : Step
   still_sayable {t} d = safe_on l s i.draws.purpose i.draws.purpose (λ _. inl refl) t (known_safe i d)
 
   -- what is in a thing that fits may be said where a bad program was loaded
-  told_sayable : (a : ℕ) (x : Thing) → Fits x (w.machines a) → allGood pr.good (w.machines a).ran ≡ false → Sayable i.draws.purpose x.what
+  told_sayable : (a : ℕ) (x : Thing) → Fits x (w.machines a) → all_good pr.good (w.machines a).ran ≡ false → Sayable i.draws.purpose x.what
   told_sayable a x fits tainted = go x.secret refl
     where
       leaked : Leaked pr (onward l s) a x

@@ -2,7 +2,7 @@
 use Rattle.std.specs.Prelude.{◌≡◌, true, false, ◌⊎◌, ℕ, ◌+◌, ◌≤◌, ◌<◌, length}
 use mathlib.Core.List.{List, [], ◌∷◌, ◌++◌, Memᴰ}
 use Rattle.model.specs.Term.{Term, Digest, Sealed, Derives}
-use Rattle.model.specs.World.{Programs, Target, For, Nowhere, Thing, Machine, Question, Acceptance, Opening, World, allGood}
+use Rattle.model.specs.World.{Programs, Target, For, Nowhere, Thing, Machine, Question, Acceptance, Opening, World, all_good}
 use Rattle.model.specs.Effect.{honest, opening, made}
 use Rattle.model.specs.Step.{Step}
 use Rattle.model.specs.Run.{Run, Moment}
@@ -28,7 +28,7 @@ pub record Was (pr : Programs) {k : ℕ} {w : World} (l : Run pr k made w) (c : 
   pub moment : Moment pr l
   pub asked_first : Memᴰ c.question moment.world.asked
   pub register_was : (moment.world.machines c.question.chip).register ≡ c.row
-  pub ran_was : allGood pr.good c.row ≡ true → (moment.world.machines c.question.chip).ran ≡ c.row
+  pub ran_was : all_good pr.good c.row ≡ true → (moment.world.machines c.question.chip).ran ≡ c.row
 
 -- at the end of the run the question is open at the judge that asked it, which knows the chip and has the row on its lists; the row begins with the first program, and was the chip's on the way
 pub record Judged (pr : Programs) {k : ℕ} {w : World} (l : Run pr k made w) (c : Acceptance) : Type 0 where
@@ -65,11 +65,11 @@ pub record Fits (x : Thing) (m : Machine) : Type 0 where
 pub record Leaked (pr : Programs) {k : ℕ} {w : World} (l : Run pr k made w) (a : ℕ) (x : Thing) : Type 0 where
   pub moment : Moment pr l
   pub fitted : Fits x (moment.world.machines a)
-  pub tainted : allGood pr.good (moment.world.machines a).ran ≡ false
+  pub tainted : all_good pr.good (moment.world.machines a).ran ≡ false
 
 pub record Secrecy (pr : Programs) {k : ℕ} {w : World} (l : Run pr k made w) : Type 0 where
   -- what was drawn for a thing that was closed for good programs alone, or for nowhere, outsiders do not have; as things stay (`Numbers`), they never will
-  pub kept : (a : ℕ) (x : Thing) → Memᴰ x (w.machines a).closed → x.secret ≡ true → (row : List Digest) → x.target ≡ For row → allGood pr.good row ≡ true → Derives w.heard x.what → ⊥
+  pub kept : (a : ℕ) (x : Thing) → Memᴰ x (w.machines a).closed → x.secret ≡ true → (row : List Digest) → x.target ≡ For row → all_good pr.good row ≡ true → Derives w.heard x.what → ⊥
   pub kept_nowhere : (a : ℕ) (x : Thing) → Memᴰ x (w.machines a).closed → x.secret ≡ true → x.target ≡ Nowhere → Derives w.heard x.what → ⊥
   -- outsiders have every sealed thing that a chip gave out, and never forget what they could once work out
   pub handed_out : (a : ℕ) (x : Thing) → Memᴰ x (w.machines a).closed → Derives w.heard (Sealed a x.number)
@@ -100,7 +100,7 @@ pub record Openings (pr : Programs) (w : World) : Type 0 where
   pub closes_given : (a : ℕ) (r : Target) (t : Term) → Derives w.heard t → Can pr w 1 (λ v. (c : Closes a r w v) × (c.thing.what ≡ t))
   pub closes_only : (v : World) → Step pr w v → (a : ℕ) → OneMore (Next (w.machines a)) (w.machines a).closed (v.machines a).closed
   -- a thing that fits can be opened at once, and if a bad program was loaded outsiders then have what is in it; a next step opens nothing else; nothing closed for nowhere was ever opened
-  pub opens_fitting : (a : ℕ) (x : Thing) → Fits x (w.machines a) → Can pr w 1 (λ v. (v.opened ≡ opening a x ∷ w.opened) × (v.machines ≡ w.machines) × (allGood pr.good (w.machines a).ran ≡ false → Derives v.heard x.what))
+  pub opens_fitting : (a : ℕ) (x : Thing) → Fits x (w.machines a) → Can pr w 1 (λ v. (v.opened ≡ opening a x ∷ w.opened) × (v.machines ≡ w.machines) × (all_good pr.good (w.machines a).ran ≡ false → Derives v.heard x.what))
   pub opens_only : (v : World) → Step pr w v → OneMore (λ p. Fits p.thing (w.machines p.chip)) w.opened v.opened
   pub never_nowhere : (p : Opening) → Memᴰ p w.opened → p.thing.target ≡ Nowhere → ⊥
 
@@ -122,8 +122,8 @@ pub record Numbers (pr : Programs) (w : World) : Type 0 where
 
 pub record Registers (pr : Programs) (w : World) : Type 0 where
   -- where only good programs were loaded, the register says which; where it says only good ones, just these were loaded
-  pub good_told : (a : ℕ) → allGood pr.good (w.machines a).ran ≡ true → (w.machines a).register ≡ (w.machines a).ran
-  pub register_true : (a : ℕ) → allGood pr.good (w.machines a).register ≡ true → (w.machines a).ran ≡ (w.machines a).register
+  pub good_told : (a : ℕ) → all_good pr.good (w.machines a).ran ≡ true → (w.machines a).register ≡ (w.machines a).ran
+  pub register_true : (a : ℕ) → all_good pr.good (w.machines a).register ≡ true → (w.machines a).ran ≡ (w.machines a).register
   -- the first program is the first of both, unless both are empty
   pub first_runs : (a : ℕ) → (((w.machines a).ran ≡ []) × ((w.machines a).register ≡ [])) ⊎ (Begins pr (w.machines a).ran × Begins pr (w.machines a).register)
 

@@ -2,16 +2,16 @@
 use Rattle.std.specs.Prelude.{◌≡◌, true, false, ℕ}
 use mathlib.Core.List.{List, [], ◌∷◌, ◌++◌, Memᴰ}
 use Rattle.model.specs.Term.{Term, Digest, Sign, Sealed, Derives}
-use Rattle.model.specs.World.{Programs, Target, For, Thing, Machine, Question, World, allGood}
+use Rattle.model.specs.World.{Programs, Target, For, Thing, Machine, Question, World, all_good}
 use Rattle.model.specs.Effect.{honest, statement, switched, loaded, put_unloaded, loaded_unput, counted, passed_over, thing, new_judge, with_chip, with_list, with_questions, saying, having_drawn, having_accepted, having_opened, on_machine, on_judge, giving_out, opening, question, asking, acceptance}
 
 -- only good programs were loaded since the switch
 abbrev pub Clean : Programs → Machine → Type 0
-Clean pr m = allGood pr.good m.ran ≡ true
+Clean pr m = all_good pr.good m.ran ≡ true
 
--- a bad one was: from then on `puts-only` and `loads-only` may come, and `opens-told` in the place of `opens`
+-- a bad one was: from then on `puts_only` and `loads_only` may come, and `opens_told` in the place of `opens`
 abbrev pub Tainted : Programs → Machine → Type 0
-Tainted pr m = allGood pr.good m.ran ≡ false
+Tainted pr m = all_good pr.good m.ran ≡ false
 
 -- outsiders can bring chip a the thing x, which it gave out, closed for the register and the counter of now
 pub record Opens (a : ℕ) (x : Thing) (w : World) : Type 0 where

@@ -72,6 +72,6 @@ pub record World : Type 0 where
   pub next : ℕ
 
 -- whether all programs of a row are good, as those of the empty row are
-unfoldable pub allGood : (Digest → Bool) → List Digest → Bool
-allGood g [] = true
-allGood g (p ∷ ps) = g p && allGood g ps
+unfoldable pub all_good : (Digest → Bool) → List Digest → Bool
+all_good g [] = true
+all_good g (p ∷ ps) = g p && all_good g ps

@@ -8,6 +8,7 @@ mod words;
 
 use anyhow::anyhow;
 use plays::play;
+use std::process::ExitCode;
 use std::{env, fs};
 
 /// A machine starts with p and q, and a judge accepts that it did.
@@ -48,12 +49,12 @@ fn run(rt: &HostRuntime) -> anyhow::Result<()> {
     Ok(())
 }
 
-fn main(rt: HostRuntime) -> anyhow::Result<()> {
+fn main(rt: HostRuntime) -> ExitCode {
     match run(&rt) {
-        Ok(()) => Ok(()),
+        Ok(()) => ExitCode::SUCCESS,
         Err(why) => {
             let _ = eprintln!(rt; "village: {why}");
-            Err(why)
+            ExitCode::FAILURE
         }
     }
 }

@@ -5,7 +5,7 @@ ghost use Rattle.wire.specs.declared.refusals.Refusal.TheVariants.{Malformed};
 ghost use Rattle.wire.specs.Kinds as kind;
 ghost use Rattle.wire.specs.Layouts.{any, bytes, number, read_form, read_of};
 ghost use Rattle.wire.specs.Words.{always, outcome, Reads};
-ghost use Rattle.orders.specs.Answers.{accepted_parts, answer_form, answer_forms, flags as flags-in, now_parts, opened_parts, refused_parts, shown_answer};
+ghost use Rattle.orders.specs.Answers.{accepted_parts, answer_form, answer_forms, flags as flags_in, now_parts, opened_parts, refused_parts, shown_answer};
 ghost use Rattle.orders.specs.Things.{whole_thing};
 
 use crate::answers::Answer;
@@ -119,7 +119,7 @@ fn accepted(word: &[u8]) -> Result<Answer<'_>, Refusal>
 }
 
 pub(crate) fn are_flags(part: &[u8]) -> bool
-    ensures { result ≡ flags-in part.now }
+    ensures { result ≡ flags_in part.now }
 {
     for flag in part {
         if *flag > 1 {

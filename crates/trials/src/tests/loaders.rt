@@ -42,11 +42,11 @@ fn runs(machine: Machine, ns: &[u8]) -> bool {
 }
 
 /// Starts from a disk with this under name 10, which has to be refused by 7 after just these programs.
-fn refused(rt: &impl Abort, heap: Global, file: File, ns: &[u8]) {
+fn refused(rt: &impl Abort, heap: Global, file: File, ns: &[u8], note: &str) {
     let mut disk = disk(rt, heap, file);
     let (machine, why) = Machine::new(1).start(digest(FIRST), &mut disk, name(10));
-    assert_eq!(rt; told(why), 7);
-    assert!(rt; runs(machine, ns), "loaded");
+    assert_eq!(rt; told(why), 7, "{note}");
+    assert!(rt; runs(machine, ns), "loaded: {note}");
 }
 
 #[test]
@@ -80,19 +80,19 @@ fn missing_list_is_refused_by_7(rt: HostRuntime) {
 
 #[test]
 fn list_that_is_a_program_is_refused_by_7(rt: HostRuntime) {
-    refused(&rt, rt.alloc(), program(3), &[FIRST]);
+    refused(&rt, rt.alloc(), program(3), &[FIRST], "a program");
 }
 
 #[test]
 fn count_of_0_is_refused_by_7(rt: HostRuntime) {
-    refused(&rt, rt.alloc(), list(1, 2, 0, false), &[FIRST]);
-    // with a further list
-    refused(&rt, rt.alloc(), list(1, 2, 0, true), &[FIRST]);
+    refused(&rt, rt.alloc(), list(1, 2, 0, false), &[FIRST], "count 0");
+    let further = list(1, 2, 0, true);
+    refused(&rt, rt.alloc(), further, &[FIRST], "with a further list");
 }
 
 #[test]
 fn count_of_9_is_refused_by_7(rt: HostRuntime) {
-    refused(&rt, rt.alloc(), list(1, 2, 9, false), &[FIRST]);
+    refused(&rt, rt.alloc(), list(1, 2, 9, false), &[FIRST], "count 9");
     let mut disk = disk(&rt, rt.alloc(), list(1, 2, 8, false));
     let (machine, why) = Machine::new(1).start(digest(FIRST), &mut disk, name(10));
     assert_eq!(rt; told(why), FINE, "8 are taken");
@@ -101,19 +101,31 @@ fn count_of_9_is_refused_by_7(rt: HostRuntime) {
 
 #[test]
 fn missing_program_is_refused_by_7(rt: HostRuntime) {
-    refused(&rt, rt.alloc(), list(1, 12, 2, false), &[FIRST]);
-    // a list is no program
-    refused(&rt, rt.alloc(), list(1, 10, 2, false), &[FIRST]);
+    refused(&rt, rt.alloc(), list(1, 12, 2, false), &[FIRST], "missing");
+    let names_a_list = list(1, 10, 2, false);
+    refused(
+        &rt,
+        rt.alloc(),
+        names_a_list,
+        &[FIRST],
+        "a list is no program",
+    );
 }
 
 #[test]
 fn missing_further_list_leaves_what_was_loaded(rt: HostRuntime) {
-    refused(&rt, rt.alloc(), list(1, 12, 2, true), &[FIRST, 1]);
+    refused(
+        &rt,
+        rt.alloc(),
+        list(1, 12, 2, true),
+        &[FIRST, 1],
+        "missing",
+    );
 }
 
 #[test]
 fn list_that_names_itself_is_loaded_once(rt: HostRuntime) {
-    refused(&rt, rt.alloc(), list(1, 10, 2, true), &[FIRST, 1]);
+    refused(&rt, rt.alloc(), list(1, 10, 2, true), &[FIRST, 1], "itself");
 }
 
 #[test]
