@@ -3,7 +3,6 @@
 #![tactic(auto)]
 
 pub mod blocks;
-pub mod exports;
 pub mod groups;
 mod lanes;
 pub mod laws;

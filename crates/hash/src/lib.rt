@@ -7,7 +7,6 @@ pub mod comparisons;
 mod constants;
 pub mod digests;
 mod endings;
-pub mod exports;
 pub mod hashers;
 pub mod keys;
 pub mod laws;

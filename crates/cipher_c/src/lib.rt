@@ -6,12 +6,14 @@
 //! void cipher_apply_keystream(const uint8_t key[32], uint32_t counter, const uint8_t nonce[12], uint8_t *bytes, size_t length);
 //! ```
 
+#![tactic(auto)]
+
 ghost use Rattle.std.specs.Prelude.{◌≡◌};
 ghost use Rattle.cipher.specs.Blocks.{block};
 ghost use Rattle.cipher.specs.Streams.{chacha20};
 
-use crate::blocks::block;
-use crate::streams::apply_keystream;
+use cipher::blocks::block;
+use cipher::streams::apply_keystream;
 
 #[unsafe(no_mangle)]
 pub extern "C" fn cipher_block(key: &[u8; 32], counter: u32, nonce: &[u8; 12], out: &mut [u8; 64])

@@ -10,13 +10,15 @@
 //! void hash_hmac(const uint8_t *key, size_t key_len, const uint8_t *message, size_t len, struct hash_digest *code);
 //! ```
 
+#![tactic(auto)]
+
 ghost use Rattle.std.specs.Prelude.{◌≡◌, ℕ, List};
 ghost use Rattle.hash.specs.Hmac.{hmac};
 ghost use Rattle.hash.specs.Keys.{prepared};
 ghost use Rattle.hash.specs.Sha256.{sha256};
 
-use crate::digests::sha256;
-use crate::keys::{Key, hmac};
+use hash::digests::sha256;
+use hash::keys::{Key, hmac};
 
 #[repr(C)]
 #[derive(Clone, Copy)]
