@@ -1,14 +1,17 @@
 #!/usr/bin/env python3
 """Brings this repository's own definitions and lemmas to snake case, and its own families of facts to camel case.
 
-usage: python3 tools/respell.py      at the top, right after /opt/rattle/port/port.py
+usage: python3 tools/respell.py [NAMES.json]      at the top, right after the kit's port/port.py; the names that it
+turned are written to NAMES.json, for turn_edits.py
 
 Names that Rattle makes (loop-i, returns-then-x) and names of the libraries stay. Where a name would fall together with a
 function of its crate, it gets an ending of its own (APART). Run it once.
 """
 
+import json
 import os
 import re
+import sys
 
 # a family of facts is spelled as a type; IfRan, since RanClaim is there
 FACTS = {"of-accepted": "OfAccepted", "of_word": "OfWord", "of-event": "OfEvent", "ran-claim": "IfRan", "cut-leaves": "CutLeaves"}
@@ -72,6 +75,9 @@ def main():
         if new != old:
             with open(path, "w", encoding="utf-8") as f:
                 f.write(new)
+    if len(sys.argv) > 1:
+        with open(sys.argv[1], "w", encoding="utf-8") as f:
+            json.dump(turned, f)
     print(f"respell: {len(turned)} names")
 
 

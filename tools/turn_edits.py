@@ -1,7 +1,7 @@
 #!/usr/bin/env python3
 """Brings must-fail edits of definitions and proofs to the spelling that port.py and respell.py gave the files.
 
-usage: python3 tools/turn_edits.py NAMES.json      NAMES.json: the names that respell.py turned
+usage: python3 tools/turn_edits.py NAMES.json      NAMES.json: the names that respell.py turned, as it wrote them
 
 Only spelling: projections are written tight, names as respell.py has them. An edit whose text does not stand once
 afterwards is listed, and brought over by hand.
@@ -23,6 +23,10 @@ def tight(text):
     return re.sub(rf"\(({PART}(?:\.{PART})+|\(\w+\.\w+ \w+\)\.{PART})\)", r"\1", text)
 
 
+def respelled(line, turned):
+    return tight(NAME.sub(lambda m: turned.get(m.group(0), m.group(0)), line.replace("List·Memᴰ", "Memᴰ")))
+
+
 def main():
     turned = json.load(open(sys.argv[1]))
     for crate in sorted(os.listdir("crates")):
@@ -31,15 +35,17 @@ def main():
             path = os.path.join(folder, f)
             old = open(path, encoding="utf-8").read()
             file = re.search(r"(?m)^file: (.*)$", old).group(1)
+            text = open(os.path.join("crates", crate, file), encoding="utf-8").read()
             lines = old.split("\n")
             if file.endswith(".antt"):
+                # port.py itself turned some names
+                turned |= {m.group(0): m.group(0).replace("-", "_") for m in NAME.finditer(old) if "-" in m.group(0) and m.group(0).replace("-", "_") in text}
                 for i, line in enumerate(lines):
                     if line.startswith(("old: ", "new: ")):
-                        lines[i] = tight(NAME.sub(lambda m: turned.get(m.group(0), m.group(0)), line.replace("List·Memᴰ", "Memᴰ")))
+                        lines[i] = respelled(line, turned)
             new = "\n".join(lines)
             if new != old:
                 open(path, "w", encoding="utf-8").write(new)
-            text = open(os.path.join("crates", crate, file), encoding="utf-8").read()
             for line in lines:
                 if line.startswith("old: "):
                     n = text.count(line[5:])
