@@ -1,4 +1,4 @@
-/* Compares the crates `hash` and `cipher` with libcrypto on thousands of inputs, and then measures them beside libcrypto
+/* Compares the crates `hash_c` and `cipher_c` with libcrypto on thousands of inputs, and then measures them beside libcrypto
    and plain C. Status 1 at the first difference. `bench/run` builds it and runs it. */
 #include "plain.h"
 #include <openssl/crypto.h>
