@@ -39,7 +39,8 @@ fn extend(w0: u32, w1: u32, w9: u32, w14: u32) -> u32
         .wrapping_add(w0)
 }
 
-// The sums of the words of two rows, place by place.
+// The sums of the words of two rows, place by place. `array::from_fn` would say it in a line, but of what its closure gives
+// nothing is known to the check where the length is a parameter.
 fn add<const N: usize>(a: &[u32; N], b: &[u32; N]) -> [u32; N]
     ensures { (i : ℕ) → i < N → slice_index result i ≡ plus (slice_index a.now i) (slice_index b.now i) }
 {
@@ -52,7 +53,9 @@ fn add<const N: usize>(a: &[u32; N], b: &[u32; N]) -> [u32; N]
 
 // Of the schedule sixteen words are kept, the word t at t % 16: once the round t has read its word, the word t + 16 takes
 // that place. The loops go over eight rounds, since the compiler writes a loop of eight out in full and one of sixteen
-// not; then every place is a constant, and after eight rounds the eight variables are back where they began.
+// not; then every place is a constant, and after eight rounds the eight variables are back where they began. One loop of
+// sixteen for the last rounds alone takes a twentieth more time.
+// What a step gives has a name of its own: the check has no rule for an array that a call lays in a variable of a loop.
 pub fn compress(h: [u32; 8], block: &[u8; 64]) -> [u32; 8]
     ensures { result ≡ compressed h block.now }
 {
@@ -83,10 +86,11 @@ pub fn compress(h: [u32; 8], block: &[u8; 64]) -> [u32; 8]
     add(&h, &s)
 }
 
-/// The blocks taken in one after the other. A `fold` takes a hundredth more time here.
+/// The blocks taken in one after the other.
 pub fn absorb(h: [u32; 8], blocks: &[[u8; 64]]) -> [u32; 8]
     ensures { result ≡ fold compressed h blocks.now }
 {
+    // `blocks.iter().fold(h, compress)` takes a hundredth more time.
     let mut s = h;
     for block in blocks {
         let next = compress(s, block);

@@ -11,6 +11,8 @@ use crate::constants::INITIAL;
 use crate::endings::to_bytes;
 
 /// The hash value over the whole blocks, the bytes after them with zeros to a block, and how many bytes came, modulo 2^64.
+// The message itself stands in the contracts and not in a ghost field, since a `Copy` struct holds no ghost data. The tail is
+// a fixed block with its length in `len`, as a hasher takes no memory from a heap.
 #[derive(Clone, Copy)]
 pub struct Hasher {
     h: [u32; 8],
@@ -77,16 +79,15 @@ impl Hasher {
     }
 
     /// The digest of the message whose whole blocks led to `h`, and whose other bytes the tail has.
-    pub(crate) fn close(self) -> [u8; 32]
+    pub(crate) fn close(mut self) -> [u8; 32]
         ensures { (t : List ℕ) → length t ≡ self.len % 64 → self.tail ≡ filled t → result ≡ closed self.h t self.len }
     {
         let used = (self.len % 64) as usize;
-        let mut block = self.tail;
-        block[used] = 0x80;
+        self.tail[used] = 0x80;
         if used < 56 {
-            return to_bytes(compress(self.h, &with_length(block, self.len)));
+            return to_bytes(compress(self.h, &with_length(self.tail, self.len)));
         }
-        let s = compress(self.h, &block);
+        let s = compress(self.h, &self.tail);
         to_bytes(compress(s, &with_length([0; 64], self.len)))
     }
 }
