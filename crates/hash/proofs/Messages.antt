@@ -15,11 +15,14 @@ abbrev Closes : List ℕ → List ℕ → ℕ → List ℕ → Type 0
 Closes h block n r = (t : List ℕ) → length t ≡ n % 64 → block ≡ filled t → r ≡ closed h t n
 
 pub finished_is
-    : (h m s block r : List ℕ) (k n : ℕ) → s ≡ absorbed h m → block ≡ filled (rest m) → n ≡ (k + length m) % 2 ^ 64 → k % 64 ≡ 0
-    → Closes s block n r → r ≡ finished h k m
-finished_is h m s block r k n a f e z p =
+    : (h m left block s r : List ℕ) (bs : List (List ℕ)) (k n : ℕ) → bs ≡ first_chunks 64 (length m / 64) m → left ≡ rest m
+    → s ≡ fold compressed h bs → block ≡ filled left → n ≡ (k + length m) % 2 ^ 64 → k % 64 ≡ 0 → Closes s block n r
+    → r ≡ finished h k m
+finished_is h m left block s r bs k n c l a f e z p =
     let q = length_rest m in
-    let v = p (rest m) (omega arith) f in
+    let j = ap length l in
+    let u = absorbed_blocks h m s bs c a in
+    let v = p left (omega arith) f in
     let w = closed_mod (absorbed h m) (rest m) (k + length m) in
     let x = closed_rest h m (k + length m) in
     cc

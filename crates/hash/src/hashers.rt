@@ -1,14 +1,13 @@
 //! SHA-256 in parts: a state by value that takes further bytes.
 
-ghost use Rattle.std.specs.Prelude.{◌≡◌, ℕ, ◌+◌, ◌%◌, ◌^◌, List, [], ◌++◌, length};
-ghost use Rattle.hash.specs.Blocks.{filled};
-ghost use Rattle.hash.specs.Hashers.{after, closed, rest};
-ghost use Rattle.hash.specs.Sha256.{absorbed, compressed, initial, sha256};
+ghost use Rattle.std.specs.Prelude.{◌≡◌, ℕ, List, [], ◌++◌, length};
+ghost use Rattle.hash.specs.Hashers.{after};
+ghost use Rattle.hash.specs.Sha256.{compressed, initial, sha256};
 
 use crate::blocks::{absorb, compress};
-use crate::buffers::{fill, with_length};
+use crate::buffers::fill;
 use crate::constants::INITIAL;
-use crate::endings::to_bytes;
+use crate::endings::close;
 
 /// The hash value over the whole blocks, the bytes after them with zeros to a block, and how many bytes came, modulo 2^64.
 // The message itself stands in the contracts and not in a ghost field, since a `Copy` struct holds no ghost data. The tail is
@@ -42,52 +41,30 @@ impl Hasher {
         }
     }
 
-    /// A hasher of which the first `taken` bytes, whole blocks, led to `h`, and which has taken `input` since.
-    pub(crate) fn resume(h: [u32; 8], taken: u64, input: &[u8]) -> Hasher
-        ensures h { result.h ≡ absorbed h input.now }
-        ensures tail { result.tail ≡ filled (rest input.now) }
-        ensures len { result.len ≡ (taken + length input.now) % 2 ^ 64 }
-    {
-        let (blocks, left) = input.as_chunks::<64>();
-        Hasher {
-            h: absorb(h, blocks),
-            tail: fill(left),
-            len: taken.wrapping_add(input.len() as u64),
-        }
-    }
-
     pub fn update(self, input: &[u8]) -> Hasher
         ensures { (m : List ℕ) → self ≡ after m → result ≡ after (m ++ input.now) }
     {
         let used = (self.len % 64) as usize;
+        let len = self.len.wrapping_add(input.len() as u64);
         let mut tail = self.tail;
         if input.len() < 64 - used {
             tail[used..used + input.len()].copy_from_slice(input);
-            let len = self.len.wrapping_add(input.len() as u64);
             return Hasher { tail, len, ..self };
         }
         let (first, more) = input.split_at(64 - used);
         tail[used..].copy_from_slice(first);
         let h = compress(self.h, &tail);
-        Hasher::resume(h, self.len.wrapping_add(first.len() as u64), more)
+        let (blocks, left) = more.as_chunks::<64>();
+        Hasher {
+            h: absorb(h, blocks),
+            tail: fill(left),
+            len,
+        }
     }
 
     pub fn finish(self) -> [u8; 32]
         ensures { (m : List ℕ) → self ≡ after m → result ≡ sha256 m }
     {
-        self.close()
-    }
-
-    /// The digest of the message whose whole blocks led to `h`, and whose other bytes the tail has.
-    pub(crate) fn close(mut self) -> [u8; 32]
-        ensures { (t : List ℕ) → length t ≡ self.len % 64 → self.tail ≡ filled t → result ≡ closed self.h t self.len }
-    {
-        let used = (self.len % 64) as usize;
-        self.tail[used] = 0x80;
-        if used < 56 {
-            return to_bytes(compress(self.h, &with_length(self.tail, self.len)));
-        }
-        let s = compress(self.h, &self.tail);
-        to_bytes(compress(s, &with_length([0; 64], self.len)))
+        close(self.h, self.tail, self.len)
     }
 }

@@ -1,6 +1,6 @@
-use Rattle.std.proofs.Common.{◌≡◌, ℕ, ◌+◌, ◌*◌, ◌%◌, ◌<◌, [], drop, get_or, refl, ap, ◌∙◌, arith, lit<, length-drop}
+use Rattle.std.proofs.Common.{◌≡◌, ℕ, ◌+◌, ◌*◌, ◌%◌, [], drop, get_or, refl, ap, ◌∙◌, arith, lit<, length-drop}
 use Rattle.std.proofs.lemmas.List.{get_or-drop, get_or-take, length-take-le}
-use Rattle.hash.specs.Sha256.{compressed, constants, rounds}
+use Rattle.hash.specs.Sha256.{compressed, rounds}
 use Rattle.hash.specs.Words.{plus}
 use Rattle.hash.proofs.Schedules.{ring_more, ring_start, rounds_more, first_rows, row_at, summed}
 use Rattle.hash.proofs.blocks.compress.Goals as goal

@@ -1,4 +1,4 @@
-use Rattle.std.proofs.Common.{◌∙◌, [], get_or, arith, rules}
+use Rattle.std.proofs.Common.{◌∙◌, [], get_or, rules}
 use Rattle.std.specs.Int.{from_be_bytes, w32}
 use Rattle.std.specs.Simd.{first_chunks}
 use Rattle.hash.proofs.Arrays.{made}

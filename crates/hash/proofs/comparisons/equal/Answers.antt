@@ -1,4 +1,4 @@
-use Rattle.std.proofs.Common.{◌+◌, ◌≤◌, [], ◌∷◌, length, refl, arith, length-append}
+use Rattle.std.proofs.Common.{length, arith, length-append}
 use Rattle.std.proofs.lemmas.Slice.Zip.{zip_end, zip_turn}
 use Rattle.hash.proofs.Similar.{agree_all, agree_more}
 use Rattle.hash.proofs.comparisons.equal.Goals as goal
