@@ -1,13 +1,10 @@
 -- Blocks taken in one after the other.
-use Rattle.std.proofs.Common.{◌≡◌, ℕ, zero, suc, ◌+◌, ◌*◌, ◌/◌, ◌%◌, ◌<◌, ◌≤◌, List, [], ◌∷◌, ◌++◌, length, take, drop, fold, refl, ap, ◌∙◌, suc-add, zero-add, arith, length-append, length-drop}
+use Rattle.std.proofs.Common.{◌≡◌, ℕ, zero, suc, ◌+◌, ◌*◌, ◌/◌, ◌%◌, ◌<◌, ◌≤◌, List, [], ◌++◌, length, take, drop, fold, ap, ◌∙◌, suc-add, zero-add, arith, length-append, length-drop}
 use Rattle.std.specs.Simd.{first_chunks}
+use Rattle.std.proofs.lemmas.List.Sums.{fold-append}
 use Rattle.std.proofs.lemmas.List.{drop-append-le, nil_from_length, take_all, take-append-le, take-append-drop, length-take-le}
 use Rattle.hash.specs.Hashers.{rest}
 use Rattle.hash.specs.Sha256.{absorbed, compressed}
-
-folded_append : {A B : Type 0} (f : B → A → B) (a : B) (xs ys : List A) → fold f a (xs ++ ys) ≡ fold f (fold f a xs) ys
-folded_append f a [] ys = refl
-folded_append f a (x ∷ xs) ys = folded_append f (f a x) xs ys
 
 chunked_append
     : (n k : ℕ) (a b : List ℕ) → length a ≡ n * 64 → first_chunks 64 (n + k) (a ++ b) ≡ first_chunks 64 n a ++ first_chunks 64 k b
@@ -27,7 +24,7 @@ unfolding absorbed
 absorbed_append h a b n e =
     let p : length (a ++ b) / 64 ≡ n + length b / 64 = simp length-append (omega arith) in
     let q : length a / 64 ≡ n = omega arith in
-    rw (p, q) (ap (fold compressed h) (chunked_append n (length b / 64) a b e) ∙ folded_append compressed h (first_chunks 64 n a) _)
+    rw (p, q) (ap (fold compressed h) (chunked_append n (length b / 64) a b e) ∙ fold-append compressed h (first_chunks 64 n a) _)
 
 pub absorbed_block : (h b : List ℕ) → length b ≡ 64 → absorbed h b ≡ compressed h b
 unfolding absorbed

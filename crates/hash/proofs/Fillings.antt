@@ -11,6 +11,11 @@ pub put_is
     → put_mid at k block ys ≡ take at block ++ (part ++ drop (at + length part) block)
 put_is at k block part ys e n = rw (e, n) (ap (λ r. take at block ++ (part ++ r)) (drop-drop (length part) at block))
 
+-- a copy to the start of a block of zeros
+pub fill_is : (part ys : List ℕ) → ys ≡ part → ys ++ drop (length part) (replicate 64 0) ≡ filled part
+unfolding filled
+fill_is part ys e = rw e (ap (λ zs. part ++ zs) (drop-replicate (length part) 64 0))
+
 -- a copy to the end of a block
 pub put_last
     : (block part ys : List ℕ) → length block ≡ 64 → ys ≡ part → length part ≡ 8

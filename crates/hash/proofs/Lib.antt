@@ -1,10 +1,11 @@
 mod Absorptions
+mod Arrays
 mod Bits
 pub mod Sizes
 mod Fillings
 mod Macs
 mod Messages
-mod Outputs
 mod Paddings
+mod Rotations
 mod Schedules
 mod Similar

@@ -1,14 +1,13 @@
 -- The schedule as an array that is filled from the front, and the rounds that read it.
-use Rattle.std.proofs.Common.{◌≡◌, ℕ, zero, suc, ◌+◌, ◌-◌, ◌*◌, ◌%◌, ◌<◌, ◌≤◌, Bool, true, false, eqb, ltb, ◌≢◌, List, [], ◌∷◌, ◌++◌, length, get_or, take, set, sym, refl, ap, ◌∙◌, subst, add-zero, add-suc, add-one, arith, lit≤, length-append, below_more}
-use Rattle.std.proofs.lemmas.List.{get_or_push, get_or-set_other, get_or-set_same, get_or-take, length-set, take_all, take-append-le, take_more_set}
+use Rattle.std.proofs.Common.{◌≡◌, ℕ, zero, suc, ◌+◌, ◌-◌, ◌*◌, ◌%◌, ◌<◌, ◌≤◌, Bool, true, false, eqb, ltb, ◌≢◌, List, [], ◌∷◌, ◌++◌, length, get_or, take, drop, set, sym, refl, ap, ◌∙◌, subst, add-zero, add-suc, add-one, arith, lit<, lit≤, length-append}
+use Rattle.std.proofs.lemmas.List.{drop-drop, get_or-drop, get_or_push, get_or-set_other, get_or-set_same, get_or-take, length-set, take_all, take-append-le, take_more}
 use Rattle.std.proofs.lemmas.Bool.{eqb-false, eqb-true}
-use Rattle.hash.specs.Sha256.{constants, extended, schedule, round, rounds}
+use Rattle.std.proofs.lemmas.Grind.{same_number_lists}
+use Rattle.std.specs.Int.{from_be_bytes, w32}
+use Rattle.std.specs.Simd.{first_chunks}
+use Rattle.hash.specs.declared.constants.TheConstants.{K}
+use Rattle.hash.specs.Sha256.{constants, extended, schedule, round, rounds, sums}
 use Rattle.hash.specs.Words.{plus, ssig0, ssig1, word_at}
-
--- the array w begins with the first n words of the schedule of m
-pub record Words (m w : List ℕ) (n : ℕ) : Type 0 where
-  pub long : length w ≡ 16
-  pub front : take n w ≡ schedule m n
 
 length_schedule : (m : List ℕ) (n : ℕ) → length (schedule m n) ≡ n
 unfolding schedule
@@ -29,20 +28,44 @@ schedule_loaded m t h =
     let s : schedule m (t + 1) ≡ extended m t (schedule m t) = ap (schedule m) (add-one t) in
     s ∙ rw b
 
-pub loaded_more : (m w : List ℕ) (t : ℕ) → Words m w t → t < 16 → Words m (set w t (word_at m (4 * t))) (t + 1)
-loaded_more m w t k h =
-    let l = k.long in
-    let p = take_more_set w t (word_at m (4 * t)) (omega arith) in
-    let f = k.front in
-    let s = schedule_loaded m t h in
-    record { long = length-set w t _ ∙ l; front = cc }
+loaded_front
+    : (m w : List ℕ) → length w ≡ 16 → ((t : ℕ) → t < 16 → get_or w t 0 ≡ word_at m (4 * t)) → (n : ℕ) → n ≤ 16
+    → take n w ≡ schedule m n
+unfolding schedule
+loaded_front m w l at zero h = refl
+loaded_front m w l at (suc n) h =
+    let p = take_more w n 0 (omega arith) in
+    let f = loaded_front m w l at n (omega arith) in
+    let s = schedule_loaded m n (omega arith) in
+    let e = at n (omega arith) in
+    subst (λ i. take i w ≡ schedule m i) (add-one n) cc
 
-pub loaded_all : (m w : List ℕ) (t : ℕ) → Words m w t → t ≡ 16 → w ≡ schedule m 16
-loaded_all m w t k e =
-    let l = k.long in
-    let f = k.front in
-    let p = take_all t w (omega arith) in
-    cc
+-- the words of the block are the first sixteen of the schedule
+pub loaded
+    : (m w : List ℕ) → length w ≡ 16 → ((t : ℕ) → t < 16 → get_or w t 0 ≡ word_at m (4 * t)) → w ≡ schedule m 16
+loaded m w l at = sym (take_all 16 w (omega arith)) ∙ loaded_front m w l at 16 (lit≤ tt)
+
+four_at : (k i : ℕ) (xs : List ℕ) → i < k → get_or (first_chunks 4 k xs) i [] ≡ take 4 (drop (4 * i) xs)
+four_at zero i xs h = absurd (omega arith)
+four_at (suc k) zero xs h = refl
+four_at (suc k) (suc i) xs h =
+    let n : 4 + 4 * i ≡ 4 * suc i = omega arith in
+    four_at k i (drop 4 xs) (omega arith) ∙ ap (take 4) (drop-drop (4 * i) 4 xs ∙ ap (λ a. drop a xs) n)
+
+four_bytes
+    : (bs m : List ℕ) (k : ℕ) → ((j : ℕ) → j < 4 → get_or bs j 0 ≡ get_or m (k + j) 0) → from_be_bytes w32 bs ≡ word_at m k
+four_bytes bs m k at =
+    let b0 : get_or bs 0 0 ≡ get_or m k 0 = at 0 (lit< tt) ∙ ap (λ i. get_or m i 0) (add-zero k) in
+    let b1 = at 1 (lit< tt) in
+    let b2 = at 2 (lit< tt) in
+    let b3 = at 3 (lit< tt) in
+    rw (b0, b1, b2, b3)
+
+-- the word that the four bytes of a chunk give, the highest first
+pub word_is : (m : List ℕ) (i : ℕ) → i < 16 → from_be_bytes w32 (get_or (first_chunks 4 16 m) i []) ≡ word_at m (4 * i)
+word_is m i h =
+    ap (from_be_bytes w32) (four_at 16 i m h)
+    ∙ four_bytes _ m (4 * i) (λ j l. get_or-take 4 (drop (4 * i) m) j 0 l ∙ get_or-drop (4 * i) m j 0)
 
 -- a word is the same in every schedule that has reached it
 entry : (m : List ℕ) (n i : ℕ) → i < n → n ≤ 64 → get_or (schedule m n) i 0 ≡ get_or (schedule m 64) i 0
@@ -124,19 +147,37 @@ ring_more m w t n p p1 p9 p14 r h e q q1 q9 q14 =
 pub first_sum : (h s c k w x : ℕ) → x ≡ plus k w → plus (plus (plus h x) c) s ≡ plus (plus (plus (plus h s) c) k) w
 first_sum h s c k w x e = omega arith
 
--- the array x has the sums of the words w and the constants from o on, as far as n
-pub record Summed (w x : List ℕ) (o n : ℕ) : Type 0 where
-  pub long : length x ≡ 16
-  pub at : (j : ℕ) → j < n → get_or x j 0 ≡ plus (get_or constants (o + j) 0) (get_or w j 0)
+rows : (i : ℕ) (d : List ℕ) → i < 4 → get_or K i d ≡ take 16 (drop (16 * i) constants)
+unfolding constants
+rows zero d h = refl
+rows (suc zero) d h = refl
+rows (suc (suc zero)) d h = refl
+rows (suc (suc (suc zero))) d h = refl
+rows (suc (suc (suc (suc i)))) d h = absurd (omega arith)
 
-pub summed_more
-    : (w x : List ℕ) (o j : ℕ) → Summed w x o j → j < 16 → Summed w (set x j (plus (get_or constants (o + j) 0) (get_or w j 0))) o (j + 1)
-summed_more w x o j r h = record {
-  long = length-set x j _ ∙ r.long;
-  at = below_more _ _
-      (λ k l. let n : k ≢ j = omega arith in get_or-set_other x j k _ 0 n ∙ r.at k l)
-      (get_or-set_same x j _ 0 (omega (arith, r.long)));
-}
+-- the constants, row by row
+pub row_at : (i j : ℕ) (d : List ℕ) → i < 4 → j < 16 → get_or (get_or K i d) j 0 ≡ get_or constants (16 * i + j) 0
+row_at i j d h l = ap (λ r. get_or r j 0) (rows i d h) ∙ get_or-take 16 _ j 0 l ∙ get_or-drop (16 * i) constants j 0
+
+pub first_rows
+    : (i j : ℕ) (d : List ℕ) → i < 3 → j < 16 → get_or (get_or (take 3 K) i d) j 0 ≡ get_or constants (16 * i + j) 0
+first_rows i j d h l = ap (λ r. get_or r j 0) (get_or-take 3 K i d h) ∙ row_at i j d (omega arith) l
+
+sum_at : (h s : List ℕ) (i : ℕ) → i < 8 → plus (get_or h i 0) (get_or s i 0) ≡ get_or (sums h s) i 0
+sum_at h s zero l = refl
+sum_at h s (suc zero) l = refl
+sum_at h s (suc (suc zero)) l = refl
+sum_at h s (suc (suc (suc zero))) l = refl
+sum_at h s (suc (suc (suc (suc zero)))) l = refl
+sum_at h s (suc (suc (suc (suc (suc zero))))) l = refl
+sum_at h s (suc (suc (suc (suc (suc (suc zero)))))) l = refl
+sum_at h s (suc (suc (suc (suc (suc (suc (suc zero))))))) l = refl
+sum_at h s (suc (suc (suc (suc (suc (suc (suc (suc i)))))))) l = absurd (omega arith)
+
+-- the eight sums
+pub summed
+    : (h s r : List ℕ) → length r ≡ 8 → ((i : ℕ) → i < 8 → get_or r i 0 ≡ plus (get_or h i 0) (get_or s i 0)) → r ≡ sums h s
+summed h s r l at = same_number_lists r (sums h s) l (λ i k. let m : i < 8 = omega arith in at i m ∙ sum_at h s i m)
 
 -- the round t, the round j of its sixteen, with the sum of its constant and its word
 pub rounds_more

@@ -10,8 +10,8 @@ pub fn equal(a: &[u8], b: &[u8]) -> bool
         return false;
     }
     let mut differ = 0;
-    for i in 0..a.len() {
-        differ |= a[i] ^ b[i];
+    for (x, y) in a.iter().zip(b) {
+        differ |= x ^ y;
     }
     differ == 0
 }

@@ -5,11 +5,13 @@ ghost use Rattle.hash.specs.Hashers.{after};
 ghost use Rattle.hash.specs.Sha256.{compressed, initial, sha256};
 
 use crate::blocks::{absorb, compress};
-use crate::buffers::{fill, put};
+use crate::buffers::fill;
 use crate::constants::INITIAL;
 use crate::endings::close;
 
 /// The hash value over the whole blocks, the bytes after them with zeros to a block, and how many bytes came, modulo 2^64.
+// The message itself stands in the contracts and not in a ghost field, since a `Copy` struct holds no ghost data. The tail is
+// a fixed block with its length in `len`, as a hasher takes no memory from a heap.
 #[derive(Clone, Copy)]
 pub struct Hasher {
     h: [u32; 8],
@@ -44,12 +46,14 @@ impl Hasher {
     {
         let used = (self.len % 64) as usize;
         let len = self.len.wrapping_add(input.len() as u64);
+        let mut tail = self.tail;
         if input.len() < 64 - used {
-            let tail = put(self.tail, used, input);
+            tail[used..used + input.len()].copy_from_slice(input);
             return Hasher { tail, len, ..self };
         }
         let (first, more) = input.split_at(64 - used);
-        let h = compress(self.h, &put(self.tail, used, first));
+        tail[used..].copy_from_slice(first);
+        let h = compress(self.h, &tail);
         let (blocks, left) = more.as_chunks::<64>();
         Hasher {
             h: absorb(h, blocks),

@@ -13,6 +13,8 @@ use crate::endings::finish;
 use crate::hashers::Hasher;
 
 /// The hash values after the blocks that HMAC puts before the message and before its digest.
+// Which key they are of stands in the contracts and not in a ghost field: C hands keys in, and a `Copy` struct holds no
+// ghost data.
 #[repr(C)]
 #[derive(Clone, Copy)]
 pub struct Key {
@@ -30,14 +32,14 @@ fn block_of(key: &[u8]) -> [u8; 64]
     fill(key)
 }
 
-fn xor(block: [u8; 64], pad: u8) -> [u8; 64]
+// With the array's `map` the code of a short message takes a quarter more time.
+fn xor(mut block: [u8; 64], pad: u8) -> [u8; 64]
     ensures { result ≡ xored block pad }
 {
-    let mut padded = block;
-    for i in 0..64 {
-        padded[i] ^= pad;
+    for byte in block.iter_mut() {
+        *byte ^= pad;
     }
-    padded
+    block
 }
 
 impl Key {

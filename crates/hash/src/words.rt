@@ -1,7 +1,7 @@
 //! The functions on words that SHA-256 is made of.
 
 ghost use Rattle.std.specs.Prelude.{◌≡◌};
-ghost use Rattle.hash.specs.Words.{bsig0, bsig1, ch, maj, ssig0, ssig1};
+ghost use Rattle.hash.specs.Words.{big_sigma, ch, IsRotation, maj, small_sigma};
 
 // The bits of y where x has a one, and those of z elsewhere. This form takes one operation fewer than the standard's.
 pub fn choose(x: u32, y: u32, z: u32) -> u32
@@ -17,26 +17,18 @@ pub fn majority(x: u32, y: u32, z: u32) -> u32
     ((x ^ y) & (y ^ z)) ^ y
 }
 
-pub fn big_sigma0(x: u32) -> u32
-    ensures { result ≡ bsig0 x }
+// The exclusive or of x rotated by A, by B and by C bits.
+pub fn big_sigma<const A: u32, const B: u32, const C: u32>(x: u32) -> u32
+    requires { IsRotation A × IsRotation B × IsRotation C }
+    ensures { result ≡ big_sigma A B C x }
 {
-    x.rotate_right(2) ^ x.rotate_right(13) ^ x.rotate_right(22)
+    x.rotate_right(A) ^ x.rotate_right(B) ^ x.rotate_right(C)
 }
 
-pub fn big_sigma1(x: u32) -> u32
-    ensures { result ≡ bsig1 x }
+// The exclusive or of x rotated by A and by B bits, and shifted by C.
+pub fn small_sigma<const A: u32, const B: u32, const C: u32>(x: u32) -> u32
+    requires { IsRotation A × IsRotation B × IsRotation C }
+    ensures { result ≡ small_sigma A B C x }
 {
-    x.rotate_right(6) ^ x.rotate_right(11) ^ x.rotate_right(25)
-}
-
-pub fn small_sigma0(x: u32) -> u32
-    ensures { result ≡ ssig0 x }
-{
-    x.rotate_right(7) ^ x.rotate_right(18) ^ (x >> 3)
-}
-
-pub fn small_sigma1(x: u32) -> u32
-    ensures { result ≡ ssig1 x }
-{
-    x.rotate_right(17) ^ x.rotate_right(19) ^ (x >> 10)
+    x.rotate_right(A) ^ x.rotate_right(B) ^ (x >> C)
 }

@@ -32,8 +32,8 @@ impl Register {
         ensures { result.sum ≡ sum_of (reverse digests.now) }
     {
         let mut register = Register::empty();
-        for i in 0..digests.len() {
-            register = register.put(&digests[i]);
+        for digest in digests {
+            register = register.put(digest);
         }
         register
     }

@@ -4,5 +4,5 @@ use Rattle.hash.proofs.blocks.step.Goals as goal
 
 pub returns : goal.returns
 returns c = λ k w e.
-    let t = first_sum (get_or c.args.s 7 0) c.big_sigma1.result c.choose.result k w c.args.x e in
+    let t = first_sum (get_or c.args.s 7 0) c.big_sigma.result c.choose.result k w c.args.x e in
     cc

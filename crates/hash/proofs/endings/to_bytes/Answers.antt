@@ -1,15 +1,11 @@
-use Rattle.std.proofs.Common.{◌+◌, ◌-◌, ◌*◌, refl, ◌∙◌, arith}
-use Rattle.hash.proofs.Outputs.{wrote_more, wrote_all}
+use Rattle.std.proofs.Common.{◌∙◌, [], ap, arith, rules}
+use Rattle.std.specs.List.{flat_map}
+use Rattle.std.proofs.lemmas.List.Folds.{flat_map-map}
+use Rattle.hash.specs.Words.{be32}
+use Rattle.hash.proofs.Arrays.{mapped}
 use Rattle.hash.proofs.endings.to_bytes.Goals as goal
 
-pub loop-i-init : goal.loop-i-init
-loop-i-init c = record { long = refl; front = refl }
-
-pub loop-i-preserved : goal.loop-i-preserved
-loop-i-preserved c =
-    let i = c.loop-i.i in
-    wrote_more c.args.h c.loop-i.bytes _ i (4 * i + 4 - 4 * i) c.loop-i.invariant (omega arith) (omega arith) (omega arith)
-    (c.copy_from_slice.ensures.after ∙ c.to_be_bytes.ensures)
-
 pub returns : goal.returns
-returns c = wrote_all c.args.h c.loop-i.bytes c.loop-i.i c.loop-i.invariant (omega arith) (omega arith)
+returns c =
+    let e = mapped _ _ be32 c.args.h c.map.result 8 0 [] (λ i h y q k. search rules) (omega arith) c.map.ensures.items in
+    c.copy_from_slice.ensures.after ∙ c.as_flattened.ensures.value ∙ ap (flat_map (λ x. x)) e ∙ flat_map-map (λ x. x) be32 c.args.h
