@@ -16,6 +16,6 @@ same_sums f (w ∷ ws) t s long long_t long_s e =
     let long_zip = length-zip2 plus (map f t) (map f s) same in
     same_number_lists (map f (w ∷ ws)) (zip2 plus (map f t) (map f s)) (omega (arith, length-map (w ∷ ws) f, length-map t f, long_zip))
     (λ k l.
-        get_or-map f (w ∷ ws) k w 0 (omega (arith, length-map (w ∷ ws) f))
-        ∙ e k w (omega (arith, length-map (w ∷ ws) f))
-        ∙ sym (get_or-zip2 plus (map f t) (map f s) k 0 0 0 (omega (arith, length-map (w ∷ ws) f, length-map t f)) (omega (arith, length-map (w ∷ ws) f, length-map s f))))
+    get_or-map f (w ∷ ws) k w 0 (omega (arith, length-map (w ∷ ws) f))
+    ∙ e k w (omega (arith, length-map (w ∷ ws) f))
+    ∙ sym (get_or-zip2 plus (map f t) (map f s) k 0 0 0 (omega (arith, length-map (w ∷ ws) f, length-map t f)) (omega (arith, length-map (w ∷ ws) f, length-map s f))))

@@ -1,4 +1,4 @@
-use Rattle.std.proofs.Common.{rules, of_calls, arith}
+use Rattle.std.proofs.Common.{rules, arith}
 use Rattle.cipher.proofs.Sums.{same_sums}
 use Rattle.cipher.proofs.rounds.added.Goals as goal
 

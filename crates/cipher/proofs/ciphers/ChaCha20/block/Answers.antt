@@ -1,6 +1,6 @@
 use Rattle.std.proofs.Common.{map-id}
 use Rattle.cipher.specs.Blocks.{block}
-use Rattle.cipher.proofs.blocks.block.Goals as goal
+use Rattle.cipher.proofs.ciphers.ChaCha20.block.Goals as goal
 
 pub returns : goal.returns
 unfolding block

@@ -1,6 +1,6 @@
 use Rattle.std.proofs.Common.{refl}
 use Rattle.cipher.proofs.Zips.{turned_more, turned_all}
-use Rattle.cipher.proofs.streams.xor.Goals as goal
+use Rattle.cipher.proofs.ciphers.xor.Goals as goal
 
 pub loop-i-init : goal.loop-i-init
 loop-i-init c = record { long = refl; done = refl; rest = refl }
