@@ -21,6 +21,7 @@ fn xor(bytes: &mut [u8], stream: &[u8])
     requires { length bytes.old ≤ length stream.now }
     ensures { bytes.new ≡ zip2 bit_xor bytes.old stream.now }
 {
+    // By index, since after a `zip` over `iter_mut` a proof knows nothing of the bytes (tried).
     for (i, byte) in bytes.iter_mut().enumerate() {
         *byte ^= stream[i];
     }
@@ -31,6 +32,7 @@ impl ChaCha20 {
     fn state(self, counter: u32) -> [u32; 16]
         ensures { result ≡ state self.key counter self.nonce }
     {
+        // Word by word: of an array by `from_fn`, at a length that is a parameter, no element was proved (tried).
         [
             0x6170_7865,
             0x3320_646e,
@@ -75,6 +77,8 @@ impl ChaCha20 {
     fn turn(self, counter: u32, bytes: &mut [u8])
         ensures { bytes.new ≡ chacha20 self.key counter self.nonce bytes.old }
     {
+        // By place, since after `chunks_mut` a proof knows nothing of the bytes (tried), and a `for` over `step_by(256)` takes
+        // 184 ns for 64 bytes, where this takes 177.
         let mut at = 0;
         let mut n = counter;
         while bytes.len() - at > 64 {

@@ -87,6 +87,7 @@ impl<'a> Report<'a> {
     {
         let agree = equal(came, expected);
         self.tally.count(agree);
+        // A bool, as `equal` answers it: an enum would be made of it here, and read nowhere else.
         let verdict = if agree { "agree" } else { "DIFFER" };
         let came = Hex(came);
         let expected = Hex(expected);

@@ -1,9 +1,5 @@
-use Rattle.std.proofs.Common.{refl}
 use Rattle.cipher.proofs.Zips.{turned_more, turned_all}
 use Rattle.cipher.proofs.ciphers.xor.Goals as goal
-
-pub loop-i-init : goal.loop-i-init
-loop-i-init c = record { long = refl; done = refl; rest = refl }
 
 pub loop-i-preserved : goal.loop-i-preserved
 loop-i-preserved c = turned_more _ _ _ _ c.requires c.loop-i.invariant c.loop-i-test.true

@@ -1,4 +1,4 @@
-use Rattle.std.proofs.Common.{◌≡◌, refl, add-one, arith}
+use Rattle.std.proofs.Common.{refl, add-one}
 use Rattle.cipher.specs.Rounds.{rounds}
 use Rattle.cipher.proofs.rounds.mixed.Goals as goal
 
@@ -9,10 +9,3 @@ loop-init g c k = refl
 pub loop-preserved : goal.loop-preserved
 unfolding rounds
 loop-preserved g c k = let before = c.loop.invariant k in let turn = c.double_round.ensures k in rw add-one (cc)
-
-pub returns : goal.returns
-returns g c k =
-    let ten : c.loop.counter ≡ 10 = omega arith in
-    let before = c.loop.invariant k in
-    let sum = c.added.ensures k in
-    cc
