@@ -3,7 +3,6 @@ pub mod Keystreams
 pub mod Lanewise
 pub mod Lawful
 pub mod Lengths
-pub mod Parts
 pub mod Pieces
 pub mod Quarters
 pub mod Serialised

@@ -1,34 +1,30 @@
--- Words written as four bytes each, one after the other.
-use Rattle.std.proofs.Common.{◌≡◌, ℕ, ◌+◌, ◌*◌, ◌<◌, ◌≤◌, List, [], ◌∷◌, ◌++◌, length, get_or, take, set, refl, ap, ◌∙◌, append_assoc, arith}
+-- Words from bytes and bytes from words, four bytes each, one word after the other.
+use Rattle.std.proofs.Common.{◌≡◌, ℕ, zero, suc, ◌+◌, ◌*◌, ◌<◌, List, [], ◌∷◌, ◌++◌, length, get_or, take, drop, refl, ap, ◌∙◌, w32, arith}
+use Rattle.std.specs.Int.{from_le_bytes}
 use Rattle.std.specs.List.{flat_map}
-use Rattle.std.proofs.lemmas.List.{take_more, take_more_set, take_all, length-set, flat_map_more}
-use Rattle.cipher.specs.Blocks.{le32}
+use Rattle.std.specs.Simd.{first_chunks}
+use Rattle.std.proofs.lemmas.List.{drop-drop, get_or-take, get_or-drop}
+use Rattle.cipher.specs.Blocks.{word}
 
-one_more : (xs : List ℕ) (i j y : ℕ) → j ≡ i + 1 → i < length xs → take j (set xs i y) ≡ take i xs ++ (y ∷ [])
-one_more xs i j y e l = ap (λ n. take n (set xs i y)) e ∙ take_more_set xs i y l
+chunk_at : (n k i : ℕ) (xs : List ℕ) → i < k → get_or (first_chunks n k xs) i [] ≡ take n (drop (n * i) xs)
+chunk_at n zero i xs l = absurd (omega arith)
+chunk_at n (suc k) zero xs l = let start : 0 ≡ n * 0 = omega arith in ap (λ j. take n (drop j xs)) start
+chunk_at n (suc k) (suc i) xs l =
+    let on : n + n * i ≡ n * suc i = omega arith in
+    chunk_at n k i (drop n xs) (omega arith) ∙ ap (take n) (drop-drop (n * i) n xs ∙ ap (λ j. drop j xs) on)
 
-four_more : (xs : List ℕ) (i j a b c d : ℕ) → j ≡ i + 4 → i + 4 ≤ length xs → take j (set (set (set (set xs i a) (i + 1) b) (i + 2) c) (i + 3) d) ≡ take i xs ++ (a ∷ b ∷ c ∷ d ∷ [])
-four_more xs i j a b c d e l =
-    let s1 = set xs i a in
-    let s2 = set s1 (i + 1) b in
-    let s3 = set s2 (i + 2) c in
-    let w1 = one_more xs i (i + 1) a refl (omega arith) in
-    let w2 = one_more s1 (i + 1) (i + 2) b (omega arith) (simp length-set (omega arith)) in
-    let w3 = one_more s2 (i + 2) (i + 3) c (omega arith) (simp length-set (omega arith)) in
-    let w4 = one_more s3 (i + 3) j d (omega arith) (simp length-set (omega arith)) in
-    w4 ∙ ap (λ p. p ++ (d ∷ [])) (w3 ∙ ap (λ p. p ++ (c ∷ [])) (w2 ∙ ap (λ p. p ++ (b ∷ [])) w1)) ∙ simp append_assoc
+word_spelled : (xs : List ℕ) (j : ℕ) → from_le_bytes w32 (take 4 (drop j xs)) ≡ word xs j
+word_spelled xs j =
+    let at : (i : ℕ) → i < 4 → get_or (take 4 (drop j xs)) i 0 ≡ get_or xs (j + i) 0 = λ i l. get_or-take 4 (drop j xs) i 0 l ∙ get_or-drop j xs i 0 in
+    let first : j + 0 ≡ j = omega arith in
+    λ k. (at 0 (omega arith) ∙ ap (λ n. get_or xs n 0) first) k + at 1 (omega arith) k * 256 + at 2 (omega arith) k * 65536 + at 3 (omega arith) k * 16777216
 
--- the first i words are written; bs is the word at i
-pub words_more : (bytes words bs : List ℕ) (i : ℕ) → length bytes ≡ 64 → length words ≡ 16 → i < 16 → bs ≡ le32 (get_or words i 0) → take (4 * i) bytes ≡ flat_map le32 (take i words) → take (4 * (i + 1)) (set (set (set (set bytes (4 * i) (get_or bs 0 0)) (4 * i + 1) (get_or bs 1 0)) (4 * i + 2) (get_or bs 2 0)) (4 * i + 3) (get_or bs 3 0)) ≡ flat_map le32 (take (i + 1) words)
-words_more bytes words bs i long-b long-w l e before =
-    let new = four_more bytes (4 * i) (4 * (i + 1)) (get_or bs 0 0) (get_or bs 1 0) (get_or bs 2 0) (get_or bs 3 0) (omega arith) (omega arith) in
-    let here = ap (λ (b : List ℕ). get_or b 0 0 ∷ get_or b 1 0 ∷ get_or b 2 0 ∷ get_or b 3 0 ∷ []) e in
-    let more = take_more words i 0 (omega arith) in
-    let join = flat_map_more le32 [] (take i words) (get_or words i 0) in
-    cc
+pub word_at : (xs : List ℕ) (quads : List (List ℕ)) (k i w : ℕ) → i < k → quads ≡ first_chunks 4 k xs → w ≡ from_le_bytes w32 (get_or quads i []) → w ≡ word xs (4 * i)
+word_at xs quads k i w l is e = e ∙ ap (from_le_bytes w32) (ap (λ qs. get_or qs i []) is ∙ chunk_at 4 k i xs l) ∙ word_spelled xs (4 * i)
 
-pub words_all : (bytes words : List ℕ) (i : ℕ) → length bytes ≡ 64 → length words ≡ 16 → 16 ≤ i → take (4 * i) bytes ≡ flat_map le32 (take i words) → bytes ≡ flat_map le32 words
-words_all bytes words i long-b long-w l e =
-    let left = take_all (4 * i) bytes (omega arith) in
-    let right = take_all i words (omega arith) in
-    cc
+-- parts is what f makes of each word
+pub same_parts : (f : ℕ → List ℕ) (parts : List (List ℕ)) (words : List ℕ) → length parts ≡ length words → ((i : ℕ) → i < length words → get_or parts i [] ≡ f (get_or words i 0)) → flat_map (λ part. part) parts ≡ flat_map f words
+same_parts f [] [] e same = refl
+same_parts f [] (w ∷ ws) e same = absurd (omega arith)
+same_parts f (p ∷ ps) [] e same = absurd (omega arith)
+same_parts f (p ∷ ps) (w ∷ ws) e same = λ i. same 0 (omega arith) i ++ same_parts f ps ws (omega arith) (λ k l. same (suc k) (omega arith)) i

@@ -1,31 +1,21 @@
 -- Sums of two states, word by word, in every lane.
-use Rattle.std.proofs.Common.{◌≡◌, ℕ, ◌+◌, ◌<◌, ◌≤◌, List, map, length, get_or, take, set, sym, ap, ◌∙◌, arith}
+use Rattle.std.proofs.Common.{◌≡◌, ℕ, ◌<◌, List, [], ◌∷◌, map, length, get_or, sym, ◌∙◌, arith}
 use lib.Lanes.{zip2}
 use lib.LanesLaws.{length-zip2}
 use lib.ListN.{length-map}
-use Rattle.std.proofs.lemmas.List.{map-set, get_or-map}
+use Rattle.std.proofs.lemmas.List.{get_or-map}
+use Rattle.std.proofs.lemmas.Grind.{same_number_lists}
 use Rattle.std.proofs.lemmas.Simd.{get_or-zip2}
 use Rattle.cipher.specs.Rounds.{plus}
-use Rattle.cipher.proofs.Filled.{filled_more, filled_all}
 
-module _ {W : Type 0} (f : W → ℕ) (t s : List W) (long_t : length t ≡ 16) (long_s : length s ≡ 16) where
-  abbrev sums : List ℕ
-  sums = zip2 plus (map f t) (map f s)
-
-  length_sums : length sums ≡ 16
-  length_sums = length-zip2 plus (map f t) (map f s) (length-map t f ∙ long_t ∙ sym (length-map s f ∙ long_s)) ∙ length-map t f ∙ long_t
-
-  sum_at : (i : ℕ) (a b : W) → i < 16 → get_or sums i 0 ≡ plus (f (get_or t i a)) (f (get_or s i b))
-  sum_at i a b l =
-      let at-t = get_or-map f t i a 0 (omega arith) in
-      let at-s = get_or-map f s i b 0 (omega arith) in
-      get_or-zip2 plus (map f t) (map f s) i 0 0 0 (omega (arith, length-map t f)) (omega (arith, length-map s f)) ∙ cc
-
-  -- the sums below i stand, and w is the one at i
-  pub sums_more : (sum : List W) (i : ℕ) (w a b : W) → length sum ≡ 16 → i < 16 → f w ≡ plus (f (get_or t i a)) (f (get_or s i b)) → take i (map f sum) ≡ take i sums → take (i + 1) (map f (set sum i w)) ≡ take (i + 1) sums
-  sums_more sum i w a b long l e before =
-      ap (take (i + 1)) (map-set f sum i w)
-      ∙ filled_more (map f sum) sums i (f w) (omega (arith, length-map sum f)) (omega (arith, length_sums)) (e ∙ sym (sum_at i a b l)) before
-
-  pub sums_all : (sum : List W) (i : ℕ) → length sum ≡ 16 → 16 ≤ i → take i (map f sum) ≡ take i sums → map f sum ≡ sums
-  sums_all sum i long l e = filled_all (map f sum) sums i (omega (arith, length-map sum f)) (omega (arith, length_sums)) e
+-- each word of sum has in the lane that f reads the sum of the words at its place in t and s
+pub same_sums : {W : Type 0} (f : W → ℕ) (sum t s : List W) → length sum ≡ 16 → length t ≡ 16 → length s ≡ 16 → ((i : ℕ) (w : W) → i < 16 → f (get_or sum i w) ≡ plus (get_or (map f t) i 0) (get_or (map f s) i 0)) → map f sum ≡ zip2 plus (map f t) (map f s)
+same_sums f [] t s long long_t long_s e = absurd (omega arith)
+same_sums f (w ∷ ws) t s long long_t long_s e =
+    let same = length-map t f ∙ long_t ∙ sym (length-map s f ∙ long_s) in
+    let long_zip = length-zip2 plus (map f t) (map f s) same in
+    same_number_lists (map f (w ∷ ws)) (zip2 plus (map f t) (map f s)) (omega (arith, length-map (w ∷ ws) f, length-map t f, long_zip))
+    (λ k l.
+    get_or-map f (w ∷ ws) k w 0 (omega (arith, length-map (w ∷ ws) f))
+    ∙ e k w (omega (arith, length-map (w ∷ ws) f))
+    ∙ sym (get_or-zip2 plus (map f t) (map f s) k 0 0 0 (omega (arith, length-map (w ∷ ws) f, length-map t f)) (omega (arith, length-map (w ∷ ws) f, length-map s f))))

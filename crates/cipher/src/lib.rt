@@ -2,11 +2,9 @@
 
 #![tactic(auto)]
 
-pub mod blocks;
-pub mod groups;
+pub mod ciphers;
 mod lanes;
 pub mod laws;
 mod rounds;
 mod states;
-pub mod streams;
 mod words;

@@ -1,10 +1,11 @@
 //! The rounds, on words of one lane or of several: the contracts say of every lane that it goes as a state of its own.
 
-ghost use Rattle.std.specs.Prelude.{◌≡◌, ℕ, ◌<◌, map};
+ghost use Rattle.std.specs.Prelude.{◌≡◌, ℕ, ◌<◌, map, slice_index};
 ghost use Rattle.std.specs.Simd.Lanes.{zip2};
 ghost use Rattle.cipher.specs.Rounds.{quarter, quarter_at_of, columns, diagonals, mixed, each4, plus};
 
 use crate::words::Word;
+use std::array;
 
 fn quarter<W: Word>(a: W, b: W, c: W, d: W) -> (W, W, W, W)
     ensures { (k : ℕ) → each4 (W.Word.lane k) result ≡ quarter (W.Word.lane k a) (W.Word.lane k b) (W.Word.lane k c) (W.Word.lane k d) }
@@ -25,11 +26,7 @@ fn quarter_at<W: Word>(s: &mut [W; 16], a: usize, b: usize, c: usize, d: usize)
     requires { (a < 16) × ((b < 16) × ((c < 16) × (d < 16))) }
     ensures { (k : ℕ) → map (W.Word.lane k) s.new ≡ quarter_at_of a b c d (map (W.Word.lane k) s.old) }
 {
-    let (e, f, g, h) = quarter(s[a], s[b], s[c], s[d]);
-    s[a] = e;
-    s[b] = f;
-    s[c] = g;
-    s[d] = h;
+    (s[a], s[b], s[c], s[d]) = quarter(s[a], s[b], s[c], s[d]);
 }
 
 // The columns, and then the diagonals.
@@ -49,11 +46,12 @@ fn double_round<W: Word>(s: &mut [W; 16])
 fn added<W: Word>(t: [W; 16], s: [W; 16]) -> [W; 16]
     ensures { (k : ℕ) → map (W.Word.lane k) result ≡ zip2 plus (map (W.Word.lane k) t) (map (W.Word.lane k) s) }
 {
-    let mut sum = t;
-    for i in 0..16 {
-        sum[i] = t[i].plus(s[i]);
-    }
-    sum
+    array::from_fn(
+        |i: usize| -> W
+            requires { i < 16 }
+            ensures { (k : ℕ) → W.Word.lane k result ≡ plus (slice_index (map (W.Word.lane k) t) i) (slice_index (map (W.Word.lane k) s) i) }
+        { t[i].plus(s[i]) },
+    )
 }
 
 /// The words of a block for each lane of the state.
@@ -61,7 +59,7 @@ pub fn mixed<W: Word>(s: [W; 16]) -> [W; 16]
     ensures { (k : ℕ) → map (W.Word.lane k) result ≡ mixed (map (W.Word.lane k) s) }
 {
     let mut t = s;
-    for _i in 0..10u32 {
+    for _ in 0..10u32 {
         double_round(&mut t);
     }
     added(t, s)

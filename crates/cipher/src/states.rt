@@ -1,52 +1,31 @@
-//! The state that a block starts from, and the bytes that its words end as.
+//! Words from bytes and bytes from words, each word as four bytes, the least first.
 
-ghost use Rattle.std.specs.Prelude.{◌≡◌, ◌+◌, ◌≤◌, length};
+ghost use Rattle.std.specs.Prelude.{◌≡◌, ◌+◌, ◌*◌, ◌≤◌, length};
 ghost use Rattle.std.specs.List.{flat_map};
-ghost use Rattle.cipher.specs.Blocks.{word, state, le32};
+ghost use Rattle.cipher.specs.Blocks.{word, le32};
 
-// Four bytes as a word, the least first.
-fn word(bytes: &[u8], i: usize) -> u32
-    requires { i + 4 ≤ length bytes.now }
-    ensures { result ≡ word bytes.now i }
+/// The i-th word of the bytes.
+pub fn word(bytes: &[u8], i: usize) -> u32
+    requires { 4 * i + 4 ≤ length bytes.now }
+    ensures { result ≡ word bytes.now (4 * i) }
 {
-    u32::from_le_bytes([bytes[i], bytes[i + 1], bytes[i + 2], bytes[i + 3]])
+    let (quads, _) = bytes.as_chunks::<4>();
+    u32::from_le_bytes(quads[i])
 }
 
-/// Four constants, the key, the block counter and the nonce.
-pub fn state(key: [u8; 32], counter: u32, nonce: [u8; 12]) -> [u32; 16]
-    ensures { result ≡ state key counter nonce }
+/// The parts, one after the other.
+pub fn joined<const N: usize, const L: usize>(parts: &[[u8; N]]) -> [u8; L]
+    requires { length parts.now * N ≡ L }
+    ensures { result ≡ flat_map (λ part. part) parts.now }
 {
-    [
-        0x6170_7865,
-        0x3320_646e,
-        0x7962_2d32,
-        0x6b20_6574,
-        word(&key, 0),
-        word(&key, 4),
-        word(&key, 8),
-        word(&key, 12),
-        word(&key, 16),
-        word(&key, 20),
-        word(&key, 24),
-        word(&key, 28),
-        counter,
-        word(&nonce, 0),
-        word(&nonce, 4),
-        word(&nonce, 8),
-    ]
+    let mut all = [0; L];
+    all.copy_from_slice(parts.as_flattened());
+    all
 }
 
-/// Each word as four bytes, the least first.
+/// Each word as four bytes.
 pub fn bytes_of(words: [u32; 16]) -> [u8; 64]
     ensures { result ≡ flat_map le32 words }
 {
-    let mut bytes = [0; 64];
-    for i in 0..16 {
-        let [a, b, c, d] = words[i].to_le_bytes();
-        bytes[4 * i] = a;
-        bytes[4 * i + 1] = b;
-        bytes[4 * i + 2] = c;
-        bytes[4 * i + 3] = d;
-    }
-    bytes
+    joined(&words.map(u32::to_le_bytes))
 }

@@ -32,7 +32,7 @@ impl Word for u32 {
     }
 
     fn rotl(self, n: u32) -> u32 {
-        (self << n) | (self >> (32 - n))
+        self.rotate_left(n)
     }
 }
 

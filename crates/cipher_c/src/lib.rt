@@ -12,15 +12,18 @@ ghost use Rattle.std.specs.Prelude.{◌≡◌};
 ghost use Rattle.cipher.specs.Blocks.{block};
 ghost use Rattle.cipher.specs.Streams.{chacha20};
 
-use cipher::blocks::block;
-use cipher::streams::apply_keystream;
+use cipher::ciphers::ChaCha20;
 
+// Key, counter and nonce are three arguments here, since these are the C prototypes.
 #[unsafe(no_mangle)]
 pub extern "C" fn cipher_block(key: &[u8; 32], counter: u32, nonce: &[u8; 12], out: &mut [u8; 64])
     ensures { out.new ≡ block key.now counter nonce.now }
 {
-    let bytes = block(*key, counter, *nonce);
-    *out = bytes;
+    let cipher = ChaCha20 {
+        key: *key,
+        nonce: *nonce,
+    };
+    *out = cipher.block(counter);
 }
 
 #[unsafe(no_mangle)]
@@ -32,5 +35,9 @@ pub extern "C" fn cipher_apply_keystream(
 )
     ensures { bytes.new ≡ chacha20 key.now counter nonce.now bytes.old }
 {
-    apply_keystream(*key, counter, *nonce, bytes);
+    let cipher = ChaCha20 {
+        key: *key,
+        nonce: *nonce,
+    };
+    cipher.apply_keystream(counter, bytes);
 }

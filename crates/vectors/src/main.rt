@@ -7,19 +7,17 @@ mod digests;
 mod rows;
 mod streams;
 
-use anyhow::anyhow;
-use rows::Tally;
+use anyhow::ensure;
+use rows::Report;
 
 fn run(rt: &HostRuntime) -> anyhow::Result<()> {
-    let mut tally = Tally::new();
-    digests::run(rt, &mut tally)?;
-    codes::run(rt, &mut tally)?;
-    streams::run_blocks(rt, &mut tally)?;
-    streams::run_streams(rt, &mut tally)?;
-    if !tally.all_agree() {
-        return Err(anyhow!("some differ"));
-    }
-    let agreeing = tally.agreeing;
+    let mut report = Report::new(rt);
+    digests::run(&mut report)?;
+    codes::run(&mut report)?;
+    streams::run_blocks(&mut report)?;
+    streams::run_streams(&mut report)?;
+    ensure!(report.tally.all_agree(), "some differ");
+    let agreeing = report.tally.agreeing;
     println!(rt; "all {agreeing} agree")?;
     Ok(())
 }

@@ -3,83 +3,105 @@
 
 ghost use Rattle.std.specs.Prelude.{◌≤◌};
 
-use crate::rows::Tally;
-use cipher::blocks::block;
-use cipher::streams::apply_keystream;
+use crate::rows::{Case, Report};
+use cipher::ciphers::ChaCha20;
+use std::alloc::Global;
 
 #[derive(Clone, Copy)]
 struct Block {
-    name: &'static str,
-    key: [u8; 32],
+    cipher: ChaCha20,
     counter: u32,
-    nonce: [u8; 12],
-    expected: &'static [u8],
 }
 
-const BLOCKS: [Block; 6] = [
-    Block {
+const BLOCKS: [Case<Block>; 6] = [
+    Case {
         name: "ChaCha20 block 2.3.2",
-        key: *b"\x00\x01\x02\x03\x04\x05\x06\x07\x08\x09\x0a\x0b\x0c\x0d\x0e\x0f\x10\x11\x12\x13\x14\x15\x16\x17\x18\x19\x1a\x1b\x1c\x1d\x1e\x1f",
-        counter: 1,
-        nonce: *b"\x00\x00\x00\x09\x00\x00\x00\x4a\x00\x00\x00\x00",
+        input: Block {
+            cipher: ChaCha20 {
+                key: *b"\x00\x01\x02\x03\x04\x05\x06\x07\x08\x09\x0a\x0b\x0c\x0d\x0e\x0f\x10\x11\x12\x13\x14\x15\x16\x17\x18\x19\x1a\x1b\x1c\x1d\x1e\x1f",
+                nonce: *b"\x00\x00\x00\x09\x00\x00\x00\x4a\x00\x00\x00\x00",
+            },
+            counter: 1,
+        },
         expected: b"\x10\xf1\xe7\xe4\xd1\x3b\x59\x15\x50\x0f\xdd\x1f\xa3\x20\x71\xc4\xc7\xd1\xf4\xc7\x33\xc0\x68\x03\x04\x22\xaa\x9a\xc3\xd4\x6c\x4e\xd2\x82\x64\x46\x07\x9f\xaa\x09\x14\xc2\xd7\x05\xd9\x8b\x02\xa2\xb5\x12\x9c\xd1\xde\x16\x4e\xb9\xcb\xd0\x83\xe8\xa2\x50\x3c\x4e",
     },
-    Block {
+    Case {
         name: "ChaCha20 block A.1 1",
-        key: [0; 32],
-        counter: 0,
-        nonce: [0; 12],
+        input: Block {
+            cipher: ChaCha20 {
+                key: [0; 32],
+                nonce: [0; 12],
+            },
+            counter: 0,
+        },
         expected: b"\x76\xb8\xe0\xad\xa0\xf1\x3d\x90\x40\x5d\x6a\xe5\x53\x86\xbd\x28\xbd\xd2\x19\xb8\xa0\x8d\xed\x1a\xa8\x36\xef\xcc\x8b\x77\x0d\xc7\xda\x41\x59\x7c\x51\x57\x48\x8d\x77\x24\xe0\x3f\xb8\xd8\x4a\x37\x6a\x43\xb8\xf4\x15\x18\xa1\x1c\xc3\x87\xb6\x69\xb2\xee\x65\x86",
     },
-    Block {
+    Case {
         name: "ChaCha20 block A.1 2",
-        key: [0; 32],
-        counter: 1,
-        nonce: [0; 12],
+        input: Block {
+            cipher: ChaCha20 {
+                key: [0; 32],
+                nonce: [0; 12],
+            },
+            counter: 1,
+        },
         expected: b"\x9f\x07\xe7\xbe\x55\x51\x38\x7a\x98\xba\x97\x7c\x73\x2d\x08\x0d\xcb\x0f\x29\xa0\x48\xe3\x65\x69\x12\xc6\x53\x3e\x32\xee\x7a\xed\x29\xb7\x21\x76\x9c\xe6\x4e\x43\xd5\x71\x33\xb0\x74\xd8\x39\xd5\x31\xed\x1f\x28\x51\x0a\xfb\x45\xac\xe1\x0a\x1f\x4b\x79\x4d\x6f",
     },
-    Block {
+    Case {
         name: "ChaCha20 block A.1 3",
-        key: *b"\x00\x00\x00\x00\x00\x00\x00\x00\x00\x00\x00\x00\x00\x00\x00\x00\x00\x00\x00\x00\x00\x00\x00\x00\x00\x00\x00\x00\x00\x00\x00\x01",
-        counter: 1,
-        nonce: [0; 12],
+        input: Block {
+            cipher: ChaCha20 {
+                key: *b"\x00\x00\x00\x00\x00\x00\x00\x00\x00\x00\x00\x00\x00\x00\x00\x00\x00\x00\x00\x00\x00\x00\x00\x00\x00\x00\x00\x00\x00\x00\x00\x01",
+                nonce: [0; 12],
+            },
+            counter: 1,
+        },
         expected: b"\x3a\xeb\x52\x24\xec\xf8\x49\x92\x9b\x9d\x82\x8d\xb1\xce\xd4\xdd\x83\x20\x25\xe8\x01\x8b\x81\x60\xb8\x22\x84\xf3\xc9\x49\xaa\x5a\x8e\xca\x00\xbb\xb4\xa7\x3b\xda\xd1\x92\xb5\xc4\x2f\x73\xf2\xfd\x4e\x27\x36\x44\xc8\xb3\x61\x25\xa6\x4a\xdd\xeb\x00\x6c\x13\xa0",
     },
-    Block {
+    Case {
         name: "ChaCha20 block A.1 4",
-        key: *b"\x00\xff\x00\x00\x00\x00\x00\x00\x00\x00\x00\x00\x00\x00\x00\x00\x00\x00\x00\x00\x00\x00\x00\x00\x00\x00\x00\x00\x00\x00\x00\x00",
-        counter: 2,
-        nonce: [0; 12],
+        input: Block {
+            cipher: ChaCha20 {
+                key: *b"\x00\xff\x00\x00\x00\x00\x00\x00\x00\x00\x00\x00\x00\x00\x00\x00\x00\x00\x00\x00\x00\x00\x00\x00\x00\x00\x00\x00\x00\x00\x00\x00",
+                nonce: [0; 12],
+            },
+            counter: 2,
+        },
         expected: b"\x72\xd5\x4d\xfb\xf1\x2e\xc4\x4b\x36\x26\x92\xdf\x94\x13\x7f\x32\x8f\xea\x8d\xa7\x39\x90\x26\x5e\xc1\xbb\xbe\xa1\xae\x9a\xf0\xca\x13\xb2\x5a\xa2\x6c\xb4\xa6\x48\xcb\x9b\x9d\x1b\xe6\x5b\x2c\x09\x24\xa6\x6c\x54\xd5\x45\xec\x1b\x73\x74\xf4\x87\x2e\x99\xf0\x96",
     },
-    Block {
+    Case {
         name: "ChaCha20 block A.1 5",
-        key: [0; 32],
-        counter: 0,
-        nonce: *b"\x00\x00\x00\x00\x00\x00\x00\x00\x00\x00\x00\x02",
+        input: Block {
+            cipher: ChaCha20 {
+                key: [0; 32],
+                nonce: *b"\x00\x00\x00\x00\x00\x00\x00\x00\x00\x00\x00\x02",
+            },
+            counter: 0,
+        },
         expected: b"\xc2\xc6\x4d\x37\x8c\xd5\x36\x37\x4a\xe2\x04\xb9\xef\x93\x3f\xcd\x1a\x8b\x22\x88\xb3\xdf\xa4\x96\x72\xab\x76\x5b\x54\xee\x27\xc7\x8a\x97\x0e\x0e\x95\x5c\x14\xf3\xa8\x8e\x74\x1b\x97\xc2\x86\xf7\x5f\x8f\xc2\x99\xe8\x14\x83\x62\xfa\x19\x8a\x39\x53\x1b\xed\x6d",
     },
 ];
 
 #[derive(Clone, Copy)]
 struct Stream {
-    name: &'static str,
-    key: [u8; 32],
+    cipher: ChaCha20,
     counter: u32,
-    nonce: [u8; 12],
     message: &'static [u8],
-    expected: &'static [u8],
 }
 
-const STREAMS: [Stream; 4] = [
-    Stream {
+const STREAMS: [Case<Stream>; 4] = [
+    Case {
         name: "ChaCha20 stream 2.4.2",
-        key: *b"\x00\x01\x02\x03\x04\x05\x06\x07\x08\x09\x0a\x0b\x0c\x0d\x0e\x0f\x10\x11\x12\x13\x14\x15\x16\x17\x18\x19\x1a\x1b\x1c\x1d\x1e\x1f",
-        counter: 1,
-        nonce: *b"\x00\x00\x00\x00\x00\x00\x00\x4a\x00\x00\x00\x00",
-        message: b"\
-            Ladies and Gentlemen of the class of '99: If I could offer you only one tip for the \
-            future, sunscreen would be it.",
+        input: Stream {
+            cipher: ChaCha20 {
+                key: *b"\x00\x01\x02\x03\x04\x05\x06\x07\x08\x09\x0a\x0b\x0c\x0d\x0e\x0f\x10\x11\x12\x13\x14\x15\x16\x17\x18\x19\x1a\x1b\x1c\x1d\x1e\x1f",
+                nonce: *b"\x00\x00\x00\x00\x00\x00\x00\x4a\x00\x00\x00\x00",
+            },
+            counter: 1,
+            message: b"\
+                Ladies and Gentlemen of the class of '99: If I could offer you only one tip for the \
+                future, sunscreen would be it.",
+        },
         expected: b"\
             \x6e\x2e\x35\x9a\x25\x68\xf9\x80\x41\xba\x07\x28\xdd\x0d\x69\x81\xe9\x7e\x7a\xec\x1d\x43\x60\xc2\
             \x0a\x27\xaf\xcc\xfd\x9f\xae\x0b\xf9\x1b\x65\xc5\x52\x47\x33\xab\x8f\x59\x3d\xab\xcd\x62\xb3\x57\
@@ -87,28 +109,36 @@ const STREAMS: [Stream; 4] = [
             \x56\xa3\x8e\x08\x8a\x22\xb6\x5e\x52\xbc\x51\x4d\x16\xcc\xf8\x06\x81\x8c\xe9\x1a\xb7\x79\x37\x36\
             \x5a\xf9\x0b\xbf\x74\xa3\x5b\xe6\xb4\x0b\x8e\xed\xf2\x78\x5e\x42\x87\x4d",
     },
-    Stream {
+    Case {
         name: "ChaCha20 stream A.2 1",
-        key: [0; 32],
-        counter: 0,
-        nonce: [0; 12],
-        message: &[0; 64],
+        input: Stream {
+            cipher: ChaCha20 {
+                key: [0; 32],
+                nonce: [0; 12],
+            },
+            counter: 0,
+            message: &[0; 64],
+        },
         expected: b"\
             \x76\xb8\xe0\xad\xa0\xf1\x3d\x90\x40\x5d\x6a\xe5\x53\x86\xbd\x28\xbd\xd2\x19\xb8\xa0\x8d\xed\x1a\
             \xa8\x36\xef\xcc\x8b\x77\x0d\xc7\xda\x41\x59\x7c\x51\x57\x48\x8d\x77\x24\xe0\x3f\xb8\xd8\x4a\x37\
             \x6a\x43\xb8\xf4\x15\x18\xa1\x1c\xc3\x87\xb6\x69\xb2\xee\x65\x86",
     },
-    Stream {
+    Case {
         name: "ChaCha20 stream A.2 2",
-        key: *b"\x00\x00\x00\x00\x00\x00\x00\x00\x00\x00\x00\x00\x00\x00\x00\x00\x00\x00\x00\x00\x00\x00\x00\x00\x00\x00\x00\x00\x00\x00\x00\x01",
-        counter: 1,
-        nonce: *b"\x00\x00\x00\x00\x00\x00\x00\x00\x00\x00\x00\x02",
-        message: b"\
-            Any submission to the IETF intended by the Contributor for publication as all or part \
-            of an IETF Internet-Draft or RFC and any statement made within the context of an IETF \
-            activity is considered an \"IETF Contribution\". Such statements include oral statements \
-            in IETF sessions, as well as written and electronic communications made at any time or \
-            place, which are addressed to",
+        input: Stream {
+            cipher: ChaCha20 {
+                key: *b"\x00\x00\x00\x00\x00\x00\x00\x00\x00\x00\x00\x00\x00\x00\x00\x00\x00\x00\x00\x00\x00\x00\x00\x00\x00\x00\x00\x00\x00\x00\x00\x01",
+                nonce: *b"\x00\x00\x00\x00\x00\x00\x00\x00\x00\x00\x00\x02",
+            },
+            counter: 1,
+            message: b"\
+                Any submission to the IETF intended by the Contributor for publication as all or part \
+                of an IETF Internet-Draft or RFC and any statement made within the context of an IETF \
+                activity is considered an \"IETF Contribution\". Such statements include oral statements \
+                in IETF sessions, as well as written and electronic communications made at any time or \
+                place, which are addressed to",
+        },
         expected: b"\
             \xa3\xfb\xf0\x7d\xf3\xfa\x2f\xde\x4f\x37\x6c\xa2\x3e\x82\x73\x70\x41\x60\x5d\x9f\x4f\x4f\x57\xbd\
             \x8c\xff\x2c\x1d\x4b\x79\x55\xec\x2a\x97\x94\x8b\xd3\x72\x29\x15\xc8\xf3\xd3\x37\xf7\xd3\x70\x05\
@@ -127,14 +157,18 @@ const STREAMS: [Stream; 4] = [
             \x14\xea\x99\x82\xcc\xaf\xb3\x41\xb2\x38\x4d\xd9\x02\xf3\xd1\xab\x7a\xc6\x1d\xd2\x9c\x6f\x21\xba\
             \x5b\x86\x2f\x37\x30\xe3\x7c\xfd\xc4\xfd\x80\x6c\x22\xf2\x21",
     },
-    Stream {
+    Case {
         name: "ChaCha20 stream A.2 3",
-        key: *b"\x1c\x92\x40\xa5\xeb\x55\xd3\x8a\xf3\x33\x88\x86\x04\xf6\xb5\xf0\x47\x39\x17\xc1\x40\x2b\x80\x09\x9d\xca\x5c\xbc\x20\x70\x75\xc0",
-        counter: 42,
-        nonce: *b"\x00\x00\x00\x00\x00\x00\x00\x00\x00\x00\x00\x02",
-        message: b"\
-            'Twas brillig, and the slithy toves\nDid gyre and gimble in the wabe:\nAll mimsy were the \
-            borogoves,\nAnd the mome raths outgrabe.",
+        input: Stream {
+            cipher: ChaCha20 {
+                key: *b"\x1c\x92\x40\xa5\xeb\x55\xd3\x8a\xf3\x33\x88\x86\x04\xf6\xb5\xf0\x47\x39\x17\xc1\x40\x2b\x80\x09\x9d\xca\x5c\xbc\x20\x70\x75\xc0",
+                nonce: *b"\x00\x00\x00\x00\x00\x00\x00\x00\x00\x00\x00\x02",
+            },
+            counter: 42,
+            message: b"\
+                'Twas brillig, and the slithy toves\nDid gyre and gimble in the wabe:\nAll mimsy were the \
+                borogoves,\nAnd the mome raths outgrabe.",
+        },
         expected: b"\
             \x62\xe6\x34\x7f\x95\xed\x87\xa4\x5f\xfa\xe7\x42\x6f\x27\xa1\xdf\x5f\xb6\x91\x10\x04\x4c\x0d\x73\
             \x11\x8e\xff\xa9\x5b\x01\xe5\xcf\x16\x6d\x3d\xf2\xd7\x21\xca\xf9\xb2\x1e\x5f\xb1\x4c\x61\x68\x71\
@@ -145,23 +179,20 @@ const STREAMS: [Stream; 4] = [
     },
 ];
 
-pub fn run_blocks(rt: &HostRuntime, tally: &mut Tally) -> anyhow::Result<()>
-    ensures { tally.old.differing ≤ tally.new.differing }
+pub fn run_blocks(report: &mut Report<'_>) -> anyhow::Result<()>
+    ensures { report.old.tally.differing ≤ report.new.tally.differing }
 {
-    for case in BLOCKS {
-        let came = block(case.key, case.counter, case.nonce);
-        tally.print(rt, case.name, &came, case.expected)?;
-    }
-    Ok(())
+    report.run(&BLOCKS, |input: &Block, alloc: Global| {
+        input.cipher.block(input.counter).to_vec(alloc)
+    })
 }
 
-pub fn run_streams(rt: &HostRuntime, tally: &mut Tally) -> anyhow::Result<()>
-    ensures { tally.old.differing ≤ tally.new.differing }
+pub fn run_streams(report: &mut Report<'_>) -> anyhow::Result<()>
+    ensures { report.old.tally.differing ≤ report.new.tally.differing }
 {
-    for case in STREAMS {
-        let mut bytes = case.message.to_vec(rt.alloc())?;
-        apply_keystream(case.key, case.counter, case.nonce, &mut bytes);
-        tally.print(rt, case.name, &bytes, case.expected)?;
-    }
-    Ok(())
+    report.run(&STREAMS, |input: &Stream, alloc: Global| {
+        let mut bytes = input.message.to_vec(alloc)?;
+        input.cipher.apply_keystream(input.counter, &mut bytes);
+        Ok(bytes)
+    })
 }

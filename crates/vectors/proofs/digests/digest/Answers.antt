@@ -9,15 +9,15 @@ unfolding repeated
 returns-then-times-eq1 c =
     c.sha256.ensures ∙ ap (λ i. sha256 (repeated c.args.part.now i)) (sym c.if-times-eq1.true)
 
-pub loop-i-init : goal.loop-i-init
+pub loop-init : goal.loop-init
 unfolding repeated
-loop-i-init c = c.new-hasher.ensures
+loop-init c = c.new-hasher.ensures
 
-pub loop-i-preserved : goal.loop-i-preserved
+pub loop-preserved : goal.loop-preserved
 unfolding repeated
-loop-i-preserved c = rw add-one (c.update-hasher.ensures _ c.loop-i.invariant)
+loop-preserved c = rw add-one (c.update-hasher.ensures _ c.loop.invariant)
 
 pub returns : goal.returns
 returns c =
-    let n : c.loop-i._i ≡ c.args.times = omega arith in
-    c.finish.ensures _ (c.loop-i.invariant ∙ ap (λ i. after (repeated c.args.part.now i)) n)
+    let n : c.loop.counter ≡ c.args.times = omega arith in
+    c.finish.ensures _ (c.loop.invariant ∙ ap (λ i. after (repeated c.args.part.now i)) n)
