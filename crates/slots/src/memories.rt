@@ -1,6 +1,8 @@
 //! Places in memory, of which power is never lost.
 
+ghost use Rattle.std.specs.Prelude.{◌≡◌, IsOk};
 ghost use Rattle.slots.specs.Memories.{places_in};
+ghost use Rattle.slots.specs.Places.{with_place};
 
 use crate::marks::Side;
 use crate::places::LENGTH;
@@ -22,7 +24,10 @@ impl Storage for Memory {
         }
     }
 
-    fn write(&mut self, side: Side, place: [u8; LENGTH]) -> Result<(), PowerLost> {
+    fn write(&mut self, side: Side, place: [u8; LENGTH]) -> Result<(), PowerLost>
+        ensures done { IsOk result }
+        ensures written { places_in self.new ≡ with_place side place (places_in self.old) }
+    {
         match side {
             Side::First => self.first = place,
             Side::Second => self.second = place,
