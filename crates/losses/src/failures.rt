@@ -1,13 +1,16 @@
 //! Places in memory that lose power: for tests of what a cut write does.
 
+ghost use Rattle.std.specs.Prelude.{◌≡◌, ◌≤◌, ◌-◌, ◌++◌, ◌↔◌, take, drop, is_ok, IsOk, OnErr};
 ghost use Rattle.losses.specs.Failures.{places_under};
+ghost use Rattle.slots.specs.Places.{Wrote, at_side, with_place};
 
 use slots::marks::Side;
 use slots::memories::Memory;
-use slots::storages::Storage;
+use slots::places::LENGTH;
+use slots::storages::{PowerLost, Storage};
 
 /// Power is lost after so many more bytes were written.
-#[derive(Clone, Copy)]
+#[derive(Clone, Copy, Debug, PartialEq, Eq)]
 pub struct Failing {
     pub memory: Memory,
     pub left: usize,
@@ -16,37 +19,25 @@ pub struct Failing {
 impl Storage for Failing {
     ghost image = { places_under };
 
-    fn first(&self) -> [u8; 48] {
-        self.memory.first
+    fn read(&self, side: Side) -> [u8; LENGTH] {
+        self.memory.read(side)
     }
 
-    fn second(&self) -> [u8; 48] {
-        self.memory.second
-    }
-
-    fn write(&mut self, side: Side, place: [u8; 48]) -> bool {
-        let whole = self.left >= 48;
-        if whole {
-            self.left -= 48;
+    fn write(&mut self, side: Side, place: [u8; LENGTH]) -> Result<(), PowerLost>
+        ensures wrote { Wrote side place (places_under self.old) (places_under self.new) (is_ok result) }
+        ensures done { IsOk result ↔ (LENGTH ≤ self.old.left) }
+        ensures left { self.new.left ≡ self.old.left - LENGTH }
+        ensures torn { OnErr result (places_under self.new ≡ with_place side (take self.old.left place ++ drop self.old.left (at_side side (places_under self.old))) (places_under self.old)) }
+    {
+        if let Some(left) = self.left.checked_sub(LENGTH) {
+            self.left = left;
             return self.memory.write(side, place);
         }
-        let old = match side {
-            Side::First => self.memory.first,
-            Side::Second => self.memory.second,
-        };
-        self.memory.write(side, torn(old, place, self.left));
+        // The first bytes of the new, and the rest of the old.
+        let mut torn = self.read(side);
+        torn[..self.left].copy_from_slice(&place[..self.left]);
         self.left = 0;
-        false
+        self.memory.write(side, torn)?;
+        Err(PowerLost)
     }
-}
-
-/// The first bytes of the new, and the rest of the old.
-fn torn(old: [u8; 48], new: [u8; 48], written: usize) -> [u8; 48] {
-    let mut place = old;
-    for i in 0..48 {
-        if i < written {
-            place[i] = new[i];
-        }
-    }
-    place
 }

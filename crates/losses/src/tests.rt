@@ -1,8 +1,8 @@
 use crate::failures::Failing;
 use slots::keepers::Keeper;
-use slots::marks::{Act, Marks, Outcome};
+use slots::marks::{Act, Marks, StepError};
 use slots::memories::Memory;
-use slots::places::place;
+use slots::places::{LENGTH, place};
 use std::process::Abort;
 use std::test::Fail;
 
@@ -14,12 +14,36 @@ const SCRIPT: [Act; 5] = [
     Act::Closing,
 ];
 
-/// What was told so far: the counter, and the number after that of the last thing; and whether there is power.
+/// How many bytes the script writes.
+const WRITTEN: usize = SCRIPT.len() * LENGTH;
+
+/// What was told so far: the counter, and the number after that of the last thing.
 #[derive(Clone, Copy)]
 struct Told {
     counter: u64,
     next: u64,
-    on: bool,
+}
+
+impl Told {
+    /// What is told once an act was answered by the marks before it; none of it comes a second time.
+    fn with(self, rt: &impl Abort, act: Act, before: Marks) -> Told {
+        match act {
+            Act::Counting => {
+                assert!(rt; before.counter >= self.counter, "a counter comes again");
+                Told {
+                    counter: before.counter.saturating_add(1),
+                    ..self
+                }
+            }
+            Act::Closing => {
+                assert!(rt; before.number >= self.next, "a number comes again");
+                Told {
+                    next: before.number.saturating_add(1),
+                    ..self
+                }
+            }
+        }
+    }
 }
 
 fn new_memory() -> Memory {
@@ -33,41 +57,26 @@ fn new_memory() -> Memory {
     }
 }
 
-/// One act, and what is told by then; an error where something comes a second time or no place fits.
-fn act(rt: &impl Abort, keeper: &mut Keeper<Failing>, act: Act, told: Told) -> Result<Told, Fail> {
-    match keeper.step(act) {
-        Outcome::Done(before) => match act {
-            Act::Counting => {
-                assert!(rt; before.counter >= told.counter, "a counter comes again");
-                Ok(Told {
-                    counter: before.counter.saturating_add(1),
-                    ..told
-                })
-            }
-            Act::Closing => {
-                assert!(rt; before.number >= told.next, "a number comes again");
-                Ok(Told {
-                    next: before.number.saturating_add(1),
-                    ..told
-                })
-            }
-        },
-        Outcome::Lost => Ok(Told { on: false, ..told }),
-        Outcome::UsedUp => Err(Fail::new("used up")),
-        Outcome::NoPlace => {
-            assert!(rt; !told.on, "no place fits");
-            Ok(told)
-        }
-    }
-}
-
-/// Plays the script until power is lost after so many bytes.
-fn play(rt: &impl Abort, memory: Memory, left: usize, told: Told) -> Result<(Memory, Told), Fail> {
+/// Plays the script until power is lost after so many bytes; a chip without power answers nothing.
+fn play(
+    rt: &impl Abort,
+    memory: Memory,
+    left: usize,
+    mut told: Told,
+) -> Result<(Memory, Told), Fail> {
     let mut keeper = Keeper::new(Failing { memory, left });
     keeper.switch_on();
-    let mut told = Told { on: true, ..told };
-    for i in 0..5 {
-        told = act(rt, &mut keeper, SCRIPT[i], told)?;
+    let mut acts = SCRIPT.iter();
+    for act in acts.by_ref() {
+        match keeper.step(*act) {
+            Ok(before) => told = told.with(rt, *act, before),
+            Err(StepError::Lost) => break,
+            Err(StepError::UsedUp) => return Err(Fail::new("used up")),
+            Err(StepError::NoPlace) => return Err(Fail::new("no place fits")),
+        }
+    }
+    for act in acts {
+        assert_eq!(rt; keeper.step(*act), Err(StepError::NoPlace), "without power");
     }
     Ok((keeper.into_storage().memory, told))
 }
@@ -77,11 +86,10 @@ fn lose_twice(rt: &impl Abort, first: usize, second: usize) -> Result<(), Fail> 
     let told = Told {
         counter: 0,
         next: 0,
-        on: false,
     };
     let (memory, told) = play(rt, new_memory(), first, told)?;
     let (memory, told) = play(rt, memory, second, told)?;
-    let (_, told) = play(rt, memory, 5 * 48, told)?;
+    let (_, told) = play(rt, memory, WRITTEN, told)?;
     assert!(rt; told.counter >= 2, "counted");
     assert!(rt; told.next >= 3, "closed");
     Ok(())
@@ -89,8 +97,8 @@ fn lose_twice(rt: &impl Abort, first: usize, second: usize) -> Result<(), Fail> 
 
 #[test]
 fn power_is_lost_at_every_byte_twice(rt: HostRuntime) -> Result<(), Fail> {
-    for first in 0..=240 {
-        for second in 0..=240 {
+    for first in 0..=WRITTEN {
+        for second in 0..=WRITTEN {
             lose_twice(&rt, first, second)?;
         }
     }

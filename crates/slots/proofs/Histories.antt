@@ -7,20 +7,24 @@ use Rattle.slots.specs.declared.marks.Marks.{Marks}
 use Rattle.slots.specs.declared.marks.Side.{Side}
 use Rattle.slots.specs.declared.marks.Side.TheVariants.{First}
 use Rattle.slots.specs.Histories.{next, Chip, Event, On, Does, Cut, written, doing, cutting, after, CutLeaves, finally, AllLeave, given_by, given, told_by, cut_by, told, closings_cut, Falling, new_chip, Survives}
-use Rattle.slots.proofs.Held.{Good, held_place, held_none, latest_good, good_newer, good_junk, good_same}
+use Rattle.slots.proofs.Held.{Good, held_place, held_is, latest_good, good_newer, good_junk, good_same}
 
--- ns: numbers given out so far; t: the counter told last, and counts cut since; k: closings cut so far
+-- the place at s holds m, and the other nothing later; ns: numbers given out so far; t: the counter told last, and counts cut since; k: closings cut so far
+record Runs (p : Places) (s : Side) (m : Marks) (ns : List ℕ) (t : ℕ × ℕ) (k : ℕ) : Type 0 where
+  good : Good p s m
+  counter_bound : m.counter ≤ 2 ^ 63
+  number_bound : m.number ≤ 2 ^ 63
+  counter_up : t.0 ≤ m.counter
+  counter_near : m.counter ≤ t.0 + t.1
+  apart : Falling m.number ns
+  number_near : m.number ≤ length ns + k
+
+-- a chip that is on holds what its places hold
 record Inv (c : Chip) (ns : List ℕ) (t : ℕ × ℕ) (k : ℕ) : Type 0 where
   side : Side
   marks : Marks
-  good : Good c.places side marks
   live_is : (c.live ≡ None) ⊎ (c.live ≡ Some (side, marks))
-  counter_bound : marks.counter ≤ 2 ^ 63
-  number_bound : marks.number ≤ 2 ^ 63
-  counter_up : t.0 ≤ marks.counter
-  counter_near : marks.counter ≤ t.0 + t.1
-  apart : Falling marks.number ns
-  number_near : marks.number ≤ length ns + k
+  runs : Runs c.places side marks ns t k
 
 falling_more : (n m : ℕ) (ns : List ℕ) → n ≤ m → Falling n ns → Falling m ns
 falling_more n m [] h f = tt
@@ -42,23 +46,10 @@ next_held Closing m c n = held_place (next Closing m) (omega arith) (omega arith
 -- ---- one event
 
 on : {c : Chip} {ns : List ℕ} {t : ℕ × ℕ} {k : ℕ} → Inv c ns t k → Inv (after c On) ns t k
-on {c} i = record { side = i.side; marks = i.marks; good = i.good; live_is = inr (latest_good c.places i.side i.marks i.good); counter_bound = i.counter_bound; number_bound = i.number_bound; counter_up = i.counter_up; counter_near = i.counter_near; apart = i.apart; number_near = i.number_near }
-
--- the chip holds what its places hold
-record Runs (p : Places) (s : Side) (m : Marks) (ns : List ℕ) (t : ℕ × ℕ) (k : ℕ) : Type 0 where
-  good : Good p s m
-  counter_bound : m.counter ≤ 2 ^ 63
-  number_bound : m.number ≤ 2 ^ 63
-  counter_up : t.0 ≤ m.counter
-  counter_near : m.counter ≤ t.0 + t.1
-  apart : Falling m.number ns
-  number_near : m.number ≤ length ns + k
+on {c} i = record { side = i.side; marks = i.marks; live_is = inr (latest_good c.places i.side i.marks i.runs.good); runs = i.runs }
 
 rests : {p : Places} {s : Side} {m : Marks} {ns : List ℕ} {t : ℕ × ℕ} {k : ℕ} (l : Option (Side × Marks)) → (l ≡ None) ⊎ (l ≡ Some (s, m)) → Runs p s m ns t k → Inv (record { places = p; live = l }) ns t k
-rests {s = s} {m = m} l is r = record { side = s; marks = m; good = r.good; live_is = is; counter_bound = r.counter_bound; number_bound = r.number_bound; counter_up = r.counter_up; counter_near = r.counter_near; apart = r.apart; number_near = r.number_near }
-
-runs : {c : Chip} {ns : List ℕ} {t : ℕ × ℕ} {k : ℕ} (i : Inv c ns t k) → Runs c.places i.side i.marks ns t k
-runs i = record { good = i.good; counter_bound = i.counter_bound; number_bound = i.number_bound; counter_up = i.counter_up; counter_near = i.counter_near; apart = i.apart; number_near = i.number_near }
+rests {s = s} {m = m} l is r = record { side = s; marks = m; live_is = is; runs = r }
 
 -- what was written, whether it is answered or not
 counts : {p : Places} {s : Side} {m : Marks} {ns : List ℕ} {t u : ℕ × ℕ} {k : ℕ} → Runs p s m ns t k → ltb m.counter (2 ^ 63) ≡ true → u.0 ≤ suc m.counter → suc m.counter ≤ u.0 + u.1 → Runs (with_place (other s) (place_of (next Counting m)) p) (other s) (next Counting m) ns u k
@@ -100,14 +91,14 @@ cuts Counting q {p} {s} {m} {ns} {t} {k} r left = by (ltb m.counter (2 ^ 63)) re
     by false e _ = rests _ (inl refl) (stays (suc t.1) k (omega arith) (omega arith) r.good r)
     by true e (inl (inl old)) = rests _ (inl refl) (stays (suc t.1) k (omega arith) (omega arith) (good_same p s m q r.good old) r)
     by true e (inl (inr new)) = let up : m.counter ≤ t.0 + t.1 = r.counter_near in let low : t.0 ≤ m.counter = r.counter_up in subst (λ z. Inv (record { places = with_place (other s) z p; live = None }) ns (t.0, suc t.1) k) (sym new) (rests _ (inl refl) (counts r e (omega arith) (omega arith)))
-    by true e (inr junk) = rests _ (inl refl) (stays (suc t.1) k (omega arith) (omega arith) (good_junk p s m q r.good (held_none q junk)) r)
+    by true e (inr junk) = rests _ (inl refl) (stays (suc t.1) k (omega arith) (omega arith) (good_junk p s m q r.good (held_is q false junk)) r)
 cuts Closing q {p} {s} {m} {ns} {t} {k} r left = by (ltb m.number (2 ^ 63)) refl left
   where
     by : (b : Bool) → ltb m.number (2 ^ 63) ≡ b → ((q ≡ at_side (other s) p) ⊎ (q ≡ place_of (next Closing m))) ⊎ (fits q ≡ false) → Inv (record { places = cond b (with_place (other s) q p) p; live = None }) ns t (suc k)
     by false e _ = rests _ (inl refl) (stays t.1 (suc k) (omega arith) (omega arith) r.good r)
     by true e (inl (inl old)) = rests _ (inl refl) (stays t.1 (suc k) (omega arith) (omega arith) (good_same p s m q r.good old) r)
     by true e (inl (inr new)) = let near : m.number ≤ length ns + k = r.number_near in subst (λ z. Inv (record { places = with_place (other s) z p; live = None }) ns t (suc k)) (sym new) (rests _ (inl refl) (closes r e (falling_more m.number (suc m.number) ns (omega arith) r.apart) (omega arith)))
-    by true e (inr junk) = rests _ (inl refl) (stays t.1 (suc k) (omega arith) (omega arith) (good_junk p s m q r.good (held_none q junk)) r)
+    by true e (inr junk) = rests _ (inl refl) (stays t.1 (suc k) (omega arith) (omega arith) (good_junk p s m q r.good (held_is q false junk)) r)
 
 -- ---- any event
 
@@ -116,13 +107,13 @@ doing_on a p None i = i
 doing_on a p (Some (s, m)) {ns} {t} {k} i = by i.live_is
   where
     by : (◌≡◌ {A = Option (Side × Marks)} (Some (s, m)) None) ⊎ (◌≡◌ {A = Option (Side × Marks)} (Some (s, m)) (Some (i.side, i.marks))) → Inv (doing (record { places = p; live = Some (s, m) }) a (Some (s, m))) (given_by a (Some (s, m)) ns) (told_by a (Some (s, m)) t) k
-    by (inl e) = let contrary : ◌≡◌ {A = ℕ} 0 1 = cc in absurd (omega arith)
+    by (inl e) = absurd cc
     by (inr e) =
         let sides : ◌≡◌ {A = Side × Marks} (s, m) (i.side, i.marks) = cc in
-        does a (subst (λ z. Runs p z.0 z.1 ns t k) (sym sides) (runs i))
+        does a (subst (λ z. Runs p z.0 z.1 ns t k) (sym sides) i.runs)
 
 cutting_on : (a : Act) (q : List ℕ) (p : Places) (l : Option (Side × Marks)) {ns : List ℕ} {t : ℕ × ℕ} {k : ℕ} → Inv (record { places = p; live = l }) ns t k → CutLeaves (record { places = p; live = l }) a q l → Inv (cutting (record { places = p; live = l }) a q l) ns (cut_by a l t) (cut_more a k)
-cutting_on a q p None {ns} {t} {k} i left = rests _ (inl refl) (stays t.1 (cut_more a k) (omega arith) (more a) i.good (runs i))
+cutting_on a q p None {ns} {t} {k} i left = rests _ (inl refl) (stays t.1 (cut_more a k) (omega arith) (more a) i.runs.good i.runs)
   where
     more : (a : Act) → k ≤ cut_more a k
     more Counting = omega arith
@@ -130,10 +121,10 @@ cutting_on a q p None {ns} {t} {k} i left = rests _ (inl refl) (stays t.1 (cut_m
 cutting_on a q p (Some (s, m)) {ns} {t} {k} i left = by i.live_is
   where
     by : (◌≡◌ {A = Option (Side × Marks)} (Some (s, m)) None) ⊎ (◌≡◌ {A = Option (Side × Marks)} (Some (s, m)) (Some (i.side, i.marks))) → Inv (cutting (record { places = p; live = Some (s, m) }) a q (Some (s, m))) ns (cut_by a (Some (s, m)) t) (cut_more a k)
-    by (inl e) = let contrary : ◌≡◌ {A = ℕ} 0 1 = cc in absurd (omega arith)
+    by (inl e) = absurd cc
     by (inr e) =
         let sides : ◌≡◌ {A = Side × Marks} (s, m) (i.side, i.marks) = cc in
-        cuts a q (subst (λ z. Runs p z.0 z.1 ns t k) (sym sides) (runs i)) left
+        cuts a q (subst (λ z. Runs p z.0 z.1 ns t k) (sym sides) i.runs) left
 
 -- ---- any events
 
@@ -145,7 +136,7 @@ along (Cut Counting q ∷ es) c ns t k i h = along es (after c (Cut Counting q))
 along (Cut Closing q ∷ es) c ns t k i h = subst (λ n. Inv (finally c (Cut Closing q ∷ es)) (given c (Cut Closing q ∷ es) ns) (told c (Cut Closing q ∷ es) t) n) (omega arith) (along es (after c (Cut Closing q)) ns (cut_by Closing c.live t) (suc k) (cutting_on Closing q c.places c.live i h.0) h.1)
 
 begins : Inv new_chip [] (0, 0) 0
-begins = record { side = First; marks = record { counter = 0; number = 0 }; good = record { here = zeros; there = inr (record { counter = 0; number = 0 }, zeros, omega arith, λ e. absurd (grind arith)) }; live_is = inl refl; counter_bound = omega arith; number_bound = omega arith; counter_up = omega arith; counter_near = omega arith; apart = tt; number_near = omega arith }
+begins = rests {s = First} {m = record { counter = 0; number = 0 }} _ (inl refl) (record { good = record { here = zeros; there = inr (record { counter = 0; number = 0 }, zeros, omega arith, λ e. absurd (grind arith)) }; counter_bound = omega arith; number_bound = omega arith; counter_up = omega arith; counter_near = omega arith; apart = tt; number_near = omega arith })
   where
     zeros : held (place_of (record { counter = 0; number = 0 })) ≡ Some (record { counter = 0; number = 0 })
     zeros = held_place (record { counter = 0; number = 0 }) (omega arith) (omega arith)
@@ -153,4 +144,5 @@ begins = record { side = First; marks = record { counter = 0; number = 0 }; good
 pub survives : Survives
 survives es h =
     let i = along es new_chip [] (0, 0) 0 begins h in
-    record { side = i.side; marks = i.marks; fitting = latest_good _ i.side i.marks i.good; counter_up = i.counter_up; counter_near = i.counter_near; apart = i.apart; number_near = subst (λ n. i.marks.number ≤ length (given new_chip es []) + n) (omega arith) i.number_near }
+    let r = i.runs in
+    record { side = i.side; marks = i.marks; fitting = latest_good _ i.side i.marks r.good; counter_up = r.counter_up; counter_near = r.counter_near; apart = r.apart; number_near = subst (λ n. i.marks.number ≤ length (given new_chip es []) + n) (omega arith) r.number_near }

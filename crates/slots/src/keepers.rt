@@ -1,11 +1,10 @@
 //! Counter and number of a chip, kept in two places: nothing is answered before it is written.
 
-ghost use Rattle.std.specs.Prelude.{◌≡◌, true, None};
+ghost use Rattle.std.specs.Prelude.{◌≡◌, ◌^◌, suc, nat_lt, if◌then◌else◌, Some, None};
 ghost use Rattle.slots.specs.Histories.{after, On, may, next};
-ghost use Rattle.slots.specs.Places.{other};
 ghost use Rattle.slots.specs.Keepers.{chip_of, lost, outcome, stepped};
 
-use crate::marks::{Act, Marks, Outcome, Side};
+use crate::marks::{Act, Marks, Side, StepError};
 use crate::places::{latest, place};
 use crate::storages::Storage;
 
@@ -13,6 +12,8 @@ use crate::storages::Storage;
 const LIMIT: u64 = 1 << 63;
 
 /// The places, and while the chip is on and one of them fits, which is the latest and what it holds.
+// Clauses see it by `chip_of` and not by a model: as a chip alone it would forget the storage, which `into_storage`
+// gives back.
 #[derive(Drop)]
 pub struct Keeper<S> {
     storage: S,
@@ -41,62 +42,47 @@ impl<S: Storage> Keeper<S> {
     pub fn switch_on(&mut self)
         ensures { chip_of S.Storage.image self.new ≡ after (chip_of S.Storage.image self.old) On }
     {
-        self.live = latest(&self.storage.first(), &self.storage.second());
+        self.live = latest(
+            &self.storage.read(Side::First),
+            &self.storage.read(Side::Second),
+        );
     }
 
-    /// Counts, or takes the next number: written first, to the place that does not hold the latest, and then answered.
-    pub fn step(&mut self, act: Act) -> Outcome
+    /// Counts, or takes the next number, and answers the marks before it: the new are written first, to the place that
+    /// does not hold the latest.
+    pub fn step(&mut self, act: Act) -> Result<Marks, StepError>
         ensures answers { result ≡ outcome (lost result) act (chip_of S.Storage.image self.old).live }
         ensures exact { chip_of S.Storage.image self.new ≡ stepped result act (chip_of S.Storage.image self.old) (S.Storage.image self.new.storage) }
     {
-        let Some((side, marks)) = self.live else {
-            return Outcome::NoPlace;
-        };
-        if !may(act, marks) {
-            return Outcome::UsedUp;
-        }
-        let next = next(act, marks);
-        let side = other(side);
-        if !self.storage.write(side, place(next)) {
-            self.live = None;
-            return Outcome::Lost;
-        }
+        let (side, marks) = self.live.ok_or(StepError::NoPlace)?;
+        let next = next(act, marks).ok_or(StepError::UsedUp)?;
+        let side = side.other();
+        // Where power is lost, the chip is off.
+        self.live = None;
+        self.storage.write(side, place(next))?;
         self.live = Some((side, next));
-        Outcome::Done(marks)
+        Ok(marks)
     }
 }
 
-fn may(act: Act, marks: Marks) -> bool
-    ensures { result ≡ may act marks }
+// The marks after an act; none where the one that it raises is at the limit.
+fn next(act: Act, marks: Marks) -> Option<Marks>
+    ensures { result ≡ if may act marks then Some (next act marks) else None }
 {
     match act {
-        Act::Counting => marks.counter < LIMIT,
-        Act::Closing => marks.number < LIMIT,
+        Act::Counting => Some(Marks {
+            counter: raised(marks.counter)?,
+            ..marks
+        }),
+        Act::Closing => Some(Marks {
+            number: raised(marks.number)?,
+            ..marks
+        }),
     }
 }
 
-// Where neither is past the limit.
-fn next(act: Act, marks: Marks) -> Marks
-    requires { may act marks ≡ true }
-    ensures { result ≡ next act marks }
+fn raised(mark: u64) -> Option<u64>
+    ensures { result ≡ if nat_lt mark (2 ^ 63) then Some (suc mark) else None }
 {
-    match act {
-        Act::Counting => Marks {
-            counter: marks.counter + 1,
-            ..marks
-        },
-        Act::Closing => Marks {
-            number: marks.number + 1,
-            ..marks
-        },
-    }
-}
-
-fn other(side: Side) -> Side
-    ensures { result ≡ other side }
-{
-    match side {
-        Side::First => Side::Second,
-        Side::Second => Side::First,
-    }
+    (mark < LIMIT).then(|| mark + 1)
 }
