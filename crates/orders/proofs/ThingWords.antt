@@ -6,27 +6,19 @@ use Rattle.std.proofs.lemmas.Bool.Decides.{same_from_decides, Decides-eqb, Decid
 use Rattle.wire.specs.declared.refusals.Refusal.{Refusal}
 use Rattle.wire.specs.declared.refusals.Refusal.TheVariants.{Malformed}
 use Rattle.wire.specs.Layouts.{Field, Bytes, Number, Counted, number_at, total, fields, allowed, read_form, read_by, read_of, refusing}
-use Rattle.orders.specs.Things.{thing_parts, thing_form, thing_forms, whole_thing}
-use Rattle.wire.proofs.Layouts.{Shifted, shifted, length_part}
+use Rattle.orders.specs.Things.{Counts, thing_parts, thing_form, thing_forms, whole_thing}
+use Rattle.wire.proofs.Layouts.{Shifted, shifted}
 use Rattle.wire.proofs.Words.{whole_form, faulty, refusing_is, true_false}
 
-pub record Taken (w : List ℕ) (n : ℕ) (turned seal : List ℕ) : Type 0 where
-  pub says : n ≡ number_at 49 2 w
-  pub few : n ≤ 1024
-  pub long : length w ≡ 67 + n
-  pub turned_is : turned ≡ take (51 + n - 51) (drop 51 w)
-  pub seal_is : seal ≡ take (67 + n - (51 + n)) (drop (51 + n) w)
-
-pub thing_read : (w : List ℕ) (n number counter : ℕ) (sum turned seal : List ℕ) → Taken w n turned seal → number ≡ number_at 1 8 w → sum ≡ take 32 (drop 9 w) → counter ≡ number_at 41 8 w → Ok (Number 1 2 ∷ Number 8 number ∷ Bytes sum ∷ Number 8 counter ∷ Counted 2 (length turned) turned ∷ Bytes seal ∷ []) ≡ read_form thing_form w
-thing_read w n number counter sum turned seal t a b d =
-    let m : number_at 49 2 w ≡ n = sym t.says in
-    let good : allowed 1 thing_parts w ≡ true = ap (λ (k : ℕ). leb k 1024 && true) m ∙ ap (λ b. b && true) (le-leb n 1024 t.few) in
-    let e : 51 + n - 51 ≡ 1 * number_at 49 2 w = omega arith in
-    let f : 67 + n - (51 + n) ≡ 16 = omega arith in
-    let g : 51 + n ≡ 51 + 1 * number_at 49 2 w = omega arith in
-    let part = t.turned_is ∙ ap (λ (k : ℕ). take k (drop 51 w)) e in
-    let size : length turned ≡ number_at 49 2 w = ap length part ∙ length_part 51 (1 * number_at 49 2 w) w (omega arith) ∙ omega arith in
-    (λ i. Ok (Number 1 2 ∷ Number 8 (a i) ∷ Bytes (b i) ∷ Number 8 (d i) ∷ Counted 2 (size i) (part i) ∷ Bytes ((t.seal_is ∙ (λ j. take (f j) (drop (g j) w))) i) ∷ []))
+pub thing_read : (w : List ℕ) (number counter : ℕ) (sum turned seal : List ℕ) → Counts 49 16 w turned → number ≡ number_at 1 8 w → sum ≡ take 32 (drop 9 w) → counter ≡ number_at 41 8 w → seal ≡ drop (length w - 16) w → Ok (Number 1 2 ∷ Number 8 number ∷ Bytes sum ∷ Number 8 counter ∷ Counted 2 (length turned) turned ∷ Bytes seal ∷ []) ≡ read_form thing_form w
+thing_read w number counter sum turned seal t a b d s =
+    let n : ℕ = 1 * number_at 49 2 w in
+    let same : length turned ≡ n = omega (arith, t.says) in
+    let good : allowed 1 thing_parts w ≡ true = ap (λ (k : ℕ). leb k 1024 && true) (sym t.says) ∙ ap (λ b. b && true) (le-leb _ 1024 t.few) in
+    let place : length w - 16 ≡ 51 + n = omega (arith, t.long) in
+    let left = length-drop (51 + n) w in
+    let rest = s ∙ ap (λ (k : ℕ). drop k w) place ∙ sym (take_all 16 (drop (51 + n) w) (omega (arith, t.long))) in
+    (λ i. Ok (Number 1 2 ∷ Number 8 (a i) ∷ Bytes (b i) ∷ Number 8 (d i) ∷ Counted 2 (t.says i) ((t.is ∙ ap (λ (k : ℕ). take k (drop 51 w)) same) i) ∷ Bytes (rest i) ∷ []))
     ∙ sym (whole_form thing_form w (omega (arith, t.long)) good)
 
 -- ---- a thing inside another word

@@ -7,6 +7,9 @@ use crate::things::Thing;
 use wire::digests::{Sign, Sum};
 use wire::refusals::Refusal;
 
+/// The most digests that a judge's list has.
+pub const MOST_LISTED: usize = 16;
+
 #[derive(Clone, Copy)]
 pub enum Answer<'a> {
     Done,

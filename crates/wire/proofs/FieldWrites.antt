@@ -2,10 +2,9 @@
 use Rattle.std.proofs.Common.{◌≡◌, ℕ, ◌+◌, ◌-◌, ◌<◌, ◌≤◌, Bool, true, false, cond, leb, List, [], ◌∷◌, ◌++◌, length, get_or, take, drop, Some, None, Option, sym, refl, ap, ◌∙◌, arith, leb-true}
 use borrow.Rule.Slice.PartMut.{put_mid}
 use Rattle.std.proofs.lemmas.List.{append-nil, append_assoc, length-append, take_at, take_all, drop-drop, drop_at, take-append-drop, map-append, map_more}
-use Rattle.std.proofs.lemmas.Bool.{cond-true}
 use Rattle.std.proofs.lemmas.Bool.Decides.{nat_tests}
 use Rattle.wire.specs.declared.fields.Field as code
-use Rattle.wire.specs.Fields.{field_of, fields_of, pasted, written}
+use Rattle.wire.specs.Fields.{field_of, fields_of, pasted}
 use Rattle.wire.specs.Layouts.{Field, bytes_of, encoded}
 
 encoded_append : (fs gs : List Field) → encoded (fs ++ gs) ≡ encoded fs ++ encoded gs
@@ -100,19 +99,3 @@ sofar_more fs i at d before now after size s h m e =
           e ∙ ap (pasted at part) s.is ∙ paste_more at (first i fs) part before s.place
           ∙ (λ j. sym (first_more fs i d h) j ++ drop (at + sym m j) before);
     }
-
-pub all_written : (fs : List code.Field) (i at : ℕ) (before now : List ℕ) (size : ℕ) → Sofar fs i at before now → length fs ≤ i → Some size ≡ roomy (encoded (fields_of fs)) (length before) → (Some size, now) ≡ written (encoded (fields_of fs)) before
-all_written fs i at before now size s h r =
-    let bs : List ℕ = encoded (fields_of fs) in
-    let whole : first i fs ≡ bs = first_all fs i h in
-    let f = fitted bs (length before) size r in
-    let place : at ≡ length bs = s.place ∙ ap length whole in
-    (λ j. (Some (f.0 j), (s.is ∙ (λ k. whole k ++ drop (place k) before)) j))
-    ∙ sym (cond-true (leb (length bs) (length before)) (Some (length bs), bs ++ drop (length bs) before) (None, before) f.1)
-
-pub nothing_written : (fs : List code.Field) (before : List ℕ) → None ≡ roomy (encoded (fields_of fs)) (length before) → (None, before) ≡ written (encoded (fields_of fs)) before
-nothing_written fs before = by (leb (length (encoded (fields_of fs))) (length before))
-  where
-    by : (b : Bool) → None ≡ cond b (Some (length (encoded (fields_of fs)))) None → ◌≡◌ {A = Option ℕ × List ℕ} (None, before) (cond b (Some (length (encoded (fields_of fs))), encoded (fields_of fs) ++ drop (length (encoded (fields_of fs))) before) (None, before))
-    by true e = let z : ◌≡◌ {A = ℕ} 0 1 = cc in absurd (omega arith)
-    by false e = refl
