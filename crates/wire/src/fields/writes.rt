@@ -1,6 +1,6 @@
 //! Writing fields into lent slices, high byte first.
 
-ghost use Rattle.std.specs.Prelude.{◌≡◌, ◌+◌, ◌≤◌, length, if◌then◌else◌, Some, None, nat_le};
+ghost use Rattle.std.specs.Prelude.{◌≡◌, ◌<◌, ◌^◌, length, SomeIff};
 ghost use Rattle.wire.specs.Fields.{field_of, fields_of, written};
 ghost use Rattle.wire.specs.Layouts.{bytes_of, encoded};
 
@@ -36,26 +36,20 @@ impl Field<'_> {
     }
 }
 
-/// How many bytes the fields have, unless there are more than so many.
-fn room(fields: &[Field<'_>], limit: usize) -> Option<usize>
-    ensures { result ≡ (if nat_le (length (encoded (fields_of fields.now))) limit then Some (length (encoded (fields_of fields.now))) else None) }
+/// How many bytes the fields have, if a `usize` tells it.
+fn total(fields: &[Field<'_>]) -> Option<usize>
+    ensures { SomeIff result (length (encoded (fields_of fields.now)) < 2 ^ 64) (length (encoded (fields_of fields.now))) }
 {
-    let mut size = 0;
-    for field in fields {
-        let more = field.size();
-        if more > limit - size {
-            return None;
-        }
-        size += more;
-    }
-    Some(size)
+    fields
+        .iter()
+        .try_fold(0usize, |total, field| total.checked_add(field.size()))
 }
 
 /// Writes the fields at the slice's beginning and tells how many bytes they have, or writes nothing if they do not fit.
 pub fn write(fields: &[Field<'_>], out: &mut [u8]) -> Option<usize>
     ensures { (result, out.new) ≡ written (encoded (fields_of fields.now)) out.old }
 {
-    let size = room(fields, out.len())?;
+    let size = total(fields).filter(|size| *size <= out.len())?;
     let mut at = 0;
     for field in fields {
         let end = at + field.size();

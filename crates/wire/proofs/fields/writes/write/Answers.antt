@@ -1,4 +1,4 @@
-use Rattle.std.proofs.Common.{◌+◌, ◌-◌, ◌≤◌, length, sym, ap, ◌∙◌, arith, rules}
+use Rattle.std.proofs.Common.{◌+◌, ◌-◌, ◌≤◌, length, ap, ◌∙◌, arith, rules}
 use borrow.Rule.Slice.PartMut.{put_mid}
 use Rattle.wire.specs.declared.fields.Field.TheVariants.{U8}
 use Rattle.wire.proofs.fields.writes.write.Goals as goal
@@ -9,13 +9,13 @@ loop-field-init c = sofar_none c.args.fields.now c.args.out.now
 
 pub overflow_add-end : goal.overflow_add-end
 overflow_add-end c =
-    let h = step_fits c.args.fields.now c.loop-field.field-index (U8 0) c.loop-field.at (length c.args.out.now) c.in_ok-size.size c.loop-field-test.true c.loop-field.invariant.place (sym c.in_ok-size.was ∙ c.room.ensures) in
+    let h = step_fits c.args.fields.now c.loop-field.field-index (U8 0) c.loop-field.at (length c.args.out.now) c.loop-field-test.true c.loop-field.invariant.place (search rules) in
     let k : c.loop-field.at + c.size.result ≤ length c.args.out.now = omega (arith, c.size.ensures) in
     search rules
 
 pub slice_bounds-put-end : goal.slice_bounds-put-end
 slice_bounds-put-end c =
-    let h = step_fits c.args.fields.now c.loop-field.field-index (U8 0) c.loop-field.at (length c.args.out.now) c.in_ok-size.size c.loop-field-test.true c.loop-field.invariant.place (sym c.in_ok-size.was ∙ c.room.ensures) in
+    let h = step_fits c.args.fields.now c.loop-field.field-index (U8 0) c.loop-field.at (length c.args.out.now) c.loop-field-test.true c.loop-field.invariant.place (search rules) in
     let k : c.loop-field.at + c.size.result ≤ length c.loop-field.out = omega (arith, c.size.ensures, c.loop-field.auto.out) in
     search rules
 
