@@ -20,12 +20,6 @@ impl<'a> Answer<'a> {
     pub fn read(word: &'a [u8]) -> Result<Answer<'a>, Refusal>
         ensures { Reads shown_answer Malformed (always answer_forms) word.now result }
     {
-        Self::parse(word)
-    }
-
-    fn parse(word: &'a [u8]) -> Result<Answer<'a>, Refusal>
-        ensures { outcome shown_answer result ≡ read_of Malformed answer_forms word.now }
-    {
         let first = *word.first().ok_or(Refusal::Malformed)?;
         match AnswerKind::try_from(first)? {
             AnswerKind::Done if word.len() == 1 => Ok(Answer::Done),

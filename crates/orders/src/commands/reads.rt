@@ -20,13 +20,6 @@ impl<'a> Command<'a> {
         ensures reads { Reads shown_command Malformed (always command_forms) word.now result }
         ensures body { IfOk result (λ v. Bodies word.now v) }
     {
-        Self::parse(word)
-    }
-
-    fn parse(word: &'a [u8]) -> Result<Command<'a>, Refusal>
-        ensures exact { outcome shown_command result ≡ read_of Malformed command_forms word.now }
-        ensures body { IfOk result (λ v. Bodies word.now v) }
-    {
         let first = *word.first().ok_or(Refusal::Malformed)?;
         match CommandKind::try_from(first)? {
             CommandKind::Put if word.len() == 1 + SIZE => Ok(Command::Put(Digest {

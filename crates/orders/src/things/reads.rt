@@ -18,13 +18,6 @@ impl<'a> Thing<'a> {
         ensures reads { Reads shown_thing Malformed (always thing_forms) word.now result }
         ensures body { IfOk result (λ t. t.body.now ≡ take (length word.now - 16) word.now) }
     {
-        Self::parse(word)
-    }
-
-    fn parse(word: &'a [u8]) -> Result<Thing<'a>, Refusal>
-        ensures exact { outcome shown_thing result ≡ read_of Malformed thing_forms word.now }
-        ensures body { IfOk result (λ t. t.body.now ≡ take (length word.now - 16) word.now) }
-    {
         if word.first() != Some(&THING) {
             return Err(Refusal::Malformed);
         }
