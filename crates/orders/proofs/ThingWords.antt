@@ -23,7 +23,7 @@ thing_read w number counter sum turned seal t a b d s =
 
 -- ---- a thing inside another word
 
-abbrev under : ℕ → Result (List Field) Refusal → Result (List Field) Refusal
+abbrev pub under : ℕ → Result (List Field) Refusal → Result (List Field) Refusal
 under k (Ok fs) = Ok (Number 1 k ∷ fs)
 under k (Err e) = Err e
 
@@ -58,30 +58,6 @@ nested : (k : ℕ) (w : List ℕ) → 1 ≤ length w → read_form (refusing Mal
 nested k [] h = absurd (omega arith)
 nested k (x ∷ w) h = nested_cons k x w ∙ ap (λ v. under k (read_of Malformed thing_forms v)) (sym (take_all (suc (length w) - 1) w (omega arith)))
 
--- any fault of a thing is that it is malformed
-only_malformed : (w : List ℕ) (e : Refusal) → Err e ≡ read_of Malformed thing_forms w → e ≡ Malformed
-only_malformed w e is = by (eqb (get_or w 0 0) 2) is
-  where
-    in_form : (b : Bool) → Err e ≡ cond b (Ok (Number 1 2 ∷ fields 1 thing_parts w)) (Err Malformed) → e ≡ Malformed
-    in_form true h = let z : ◌≡◌ {A = ℕ} 0 1 = cc in absurd (omega arith)
-    in_form false h = cc
-
-    by : (b : Bool) → Err e ≡ read_by Malformed (cond b (Some thing_form) None) w → e ≡ Malformed
-    by true h = in_form (eqb (total 1 thing_parts w) (length w) && allowed 1 thing_parts w) (h ∙ refusing_is Malformed 2 thing_parts w)
-    by false h = cc
-
 -- a word of this kind whose thing is this part of it
-abbrev inner : List ℕ → List ℕ
-inner w = take (length w - 1) (drop 1 w)
-
-pub inside_fault : (k : ℕ) (w : List ℕ) (e : Refusal) → 1 ≤ length w → Err e ≡ read_of Malformed thing_forms (inner w) → Err Malformed ≡ read_form (refusing Malformed k whole_thing) w
-inside_fault k w e h is = sym (nested k w h ∙ ap (under k) (sym is) ∙ ap (λ x. Err x) (only_malformed (inner w) e is))
-
-pub inside_thing : (k : ℕ) (w : List ℕ) (fs : List Field) → 1 ≤ length w → Ok fs ≡ read_of Malformed thing_forms (inner w) → Ok (Number 1 k ∷ fs) ≡ read_form (refusing Malformed k whole_thing) w
-inside_thing k w fs h is = sym (nested k w h ∙ ap (under k) (sym is))
-
-pub inside_body : (w body : List ℕ) → body ≡ take (length (inner w) - 16) (inner w) → body ≡ take (length w - 17) (drop 1 w)
-inside_body w body e =
-    let p : inner w ≡ drop 1 w = take_rest w 1 in
-    let n : length (inner w) - 16 ≡ length w - 17 = (let l = ap length p ∙ length-drop 1 w in omega arith) in
-    e ∙ (λ i. take (n i) (p i))
+pub inside : (k : ℕ) (w : List ℕ) (r : Result (List Field) Refusal) → 1 ≤ length w → r ≡ read_of Malformed thing_forms (take (length w - 1) (drop 1 w)) → under k r ≡ read_form (refusing Malformed k whole_thing) w
+inside k w r h is = ap (under k) is ∙ sym (nested k w h)

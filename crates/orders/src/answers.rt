@@ -21,7 +21,9 @@ pub enum Answer<'a> {
     Opened(&'a [u8]),
     /// The counter and the sum of now.
     Now(u64, Sum),
+    /// That it was refused: a word like the others, which was read. What cannot be read is an `Err`.
     Refused(Refusal),
-    /// The number of the judge's list, and for each of its digests 1 if it is on the office's list, else 0.
+    /// The number of the judge's list, and for each of its digests 1 if it is on the office's list, else 0. These are lent
+    /// from the word, so they are bytes as they stand there and no `bool`s.
     Accepted(u16, &'a [u8]),
 }

@@ -33,9 +33,6 @@ first_front fs i =
     let l = ap length e ∙ length-append (first i fs) (encoded (fields_of (drop i fs))) in
     omega arith
 
-pub first_all : (fs : List code.Field) (i : ℕ) → length fs ≤ i → first i fs ≡ encoded (fields_of fs)
-first_all fs i h = ap (λ x. encoded (fields_of x)) (take_all i fs h)
-
 -- ---- how many bytes they have
 
 -- one field's bytes more

@@ -50,6 +50,7 @@ pub fn write(fields: &[Field<'_>], out: &mut [u8]) -> Option<usize>
     ensures { (result, out.new) ≡ written (encoded (fields_of fields.now)) out.old }
 {
     let size = total(fields).filter(|size| *size <= out.len())?;
+    // Where the next field begins: they differ in size, so that no `chunks` gives their places.
     let mut at = 0;
     for field in fields {
         let end = at + field.size();

@@ -1,11 +1,10 @@
 use Rattle.std.proofs.Common.{◌≡◌, ◌≤◌, length, get_or, sym, refl, ◌∙◌, arith, rules}
-use Rattle.std.proofs.lemmas.Grind.{common_steps}
 use Rattle.wire.specs.declared.refusals.Refusal.TheVariants.{Malformed}
 use Rattle.wire.specs.declared.kinds.AnswerKind.TheVariants.{Done, Signed, Counter, Closed, Opened, Now, Refused, Accepted}
 use Rattle.orders.specs.Answers.{answer_form, answer_forms, refused_parts, shown_answer}
 use Rattle.orders.specs.Things.{whole_thing}
 use Rattle.orders.proofs.AnswerWords.{refused_read}
-use Rattle.orders.proofs.ThingWords.{inside_thing}
+use Rattle.orders.proofs.ThingWords.{inside}
 use Rattle.orders.proofs.answers.Answer.read.Goals as goal
 use Rattle.wire.proofs.Words.{known, reads, unknown_kind}
 
@@ -20,7 +19,11 @@ returns-in_err-try_from c =
     reads shown_answer Malformed answer_forms refl _ _ c.type_inv.word (search (rules, unknown))
 
 pub returns-in_err-read-in-Closed : goal.returns-in_err-read-in-Closed
-returns-in_err-read-in-Closed c = reads shown_answer Malformed answer_forms refl _ _ c.type_inv.word (grind (arith, common_steps))
+returns-in_err-read-in-Closed c =
+    let first : get_or c.args.word.now 0 0 ≡ 19 = search rules in
+    let long : 1 ≤ length c.args.word.now = search rules in
+    let inner = inside 19 c.args.word.now _ long c.in_err-read-in-Closed.ensures.reads.answers ∙ sym (known Malformed answer_forms 19 (answer_form 19 whole_thing) c.args.word.now first refl) in
+    reads shown_answer Malformed answer_forms refl _ _ c.type_inv.word (search (rules, inner))
 
 pub returns-in_err-counted_at-in-Opened : goal.returns-in_err-counted_at-in-Opened
 returns-in_err-counted_at-in-Opened c = reads shown_answer Malformed answer_forms refl _ _ c.type_inv.word (search rules)
@@ -42,7 +45,7 @@ returns-in_ok-read-in-Closed c =
     let first : get_or c.args.word.now 0 0 ≡ 19 = search rules in
     let long : 1 ≤ length c.args.word.now = search rules in
     reads shown_answer Malformed answer_forms refl _ _ c.type_inv.word
-    (inside_thing 19 c.args.word.now _ long c.in_ok-read-in-Closed.ensures.reads.answers
+    (inside 19 c.args.word.now _ long c.in_ok-read-in-Closed.ensures.reads.answers
     ∙ sym (known Malformed answer_forms 19 (answer_form 19 whole_thing) c.args.word.now first refl))
 
 pub returns-in_ok-counted_at-in-Opened : goal.returns-in_ok-counted_at-in-Opened

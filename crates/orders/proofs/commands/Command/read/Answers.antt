@@ -1,10 +1,9 @@
 use Rattle.std.proofs.Common.{◌≡◌, ◌≤◌, length, get_or, sym, refl, ◌∙◌, arith, rules}
-use Rattle.std.proofs.lemmas.Grind.{common_steps}
 use Rattle.wire.specs.declared.refusals.Refusal.TheVariants.{Malformed}
 use Rattle.wire.specs.declared.kinds.CommandKind.TheVariants.{Put, Sign, Count, Close, Open, Read, SwitchedOn}
 use Rattle.orders.specs.Commands.{command_form, command_forms, shown_command}
 use Rattle.orders.specs.Things.{whole_thing}
-use Rattle.orders.proofs.ThingWords.{inside_thing}
+use Rattle.orders.proofs.ThingWords.{inside}
 use Rattle.orders.proofs.commands.Command.read.Goals as goal
 use Rattle.wire.proofs.Words.{known, reads, unknown_kind}
 
@@ -22,7 +21,11 @@ pub returns-in_err-bytes-in-Close-clause-reads : goal.returns-in_err-bytes-in-Cl
 returns-in_err-bytes-in-Close-clause-reads c = reads shown_command Malformed command_forms refl _ _ c.type_inv.word (search rules)
 
 pub returns-in_err-read-in-Open-clause-reads : goal.returns-in_err-read-in-Open-clause-reads
-returns-in_err-read-in-Open-clause-reads c = reads shown_command Malformed command_forms refl _ _ c.type_inv.word (grind (arith, common_steps))
+returns-in_err-read-in-Open-clause-reads c =
+    let first : get_or c.args.word.now 0 0 ≡ 5 = search rules in
+    let long : 1 ≤ length c.args.word.now = search rules in
+    let inner = inside 5 c.args.word.now _ long c.in_err-read-in-Open.ensures.reads.answers ∙ sym (known Malformed command_forms 5 (command_form 5 whole_thing) c.args.word.now first refl) in
+    reads shown_command Malformed command_forms refl _ _ c.type_inv.word (search (rules, inner))
 
 pub returns-in-Put-clause-reads : goal.returns-in-Put-clause-reads
 returns-in-Put-clause-reads c = reads shown_command Malformed command_forms refl _ _ c.type_inv.word (search rules)
@@ -41,7 +44,7 @@ returns-in_ok-read-in-Open-clause-reads c =
     let first : get_or c.args.word.now 0 0 ≡ 5 = search rules in
     let long : 1 ≤ length c.args.word.now = search rules in
     reads shown_command Malformed command_forms refl _ _ c.type_inv.word
-    (inside_thing 5 c.args.word.now _ long c.in_ok-read-in-Open.ensures.reads.answers
+    (inside 5 c.args.word.now _ long c.in_ok-read-in-Open.ensures.reads.answers
     ∙ sym (known Malformed command_forms 5 (command_form 5 whole_thing) c.args.word.now first refl))
 
 pub returns-in-Read-clause-reads : goal.returns-in-Read-clause-reads
