@@ -1,7 +1,7 @@
 -- Fields written one after another.
 use Rattle.std.proofs.Common.{◌≡◌, ℕ, ◌+◌, ◌-◌, ◌<◌, ◌≤◌, Bool, true, false, List, [], ◌∷◌, ◌++◌, length, get_or, take, drop, Some, None, Option, SomeIff, sym, refl, ap, ◌∙◌, subst, add-zero, arith, ◌^◌}
 use borrow.Rule.Slice.PartMut.{put_mid}
-use Rattle.std.proofs.lemmas.List.{append-nil, append_assoc, length-append, take_at, take_all, drop-drop, drop_at, take-append-drop, map-append, map_more}
+use Rattle.std.proofs.lemmas.List.{append-nil, append_assoc, length-append, take_at, drop-drop, drop_at, take-append-drop, map-append, map_more}
 use Rattle.std.specs.List.{fold}
 use Rattle.std.specs.Bool.{MatchBool}
 use Rattle.wire.specs.declared.fields.Field as code

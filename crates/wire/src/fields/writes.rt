@@ -9,6 +9,7 @@ use crate::numbers::BigEndian;
 
 impl Field<'_> {
     /// How many bytes the field has.
+    #[tactic(auto, using(crate::proofs::Bigs::length_big))]
     fn size(self) -> usize
         ensures { result ≡ length (bytes_of (field_of self.entry)) }
     {

@@ -1,4 +1,4 @@
-use Rattle.std.proofs.Common.{◌≡◌, ◌≤◌, length, get_or, sym, refl, ◌∙◌, arith, rules}
+use Rattle.std.proofs.Common.{◌≡◌, ◌≤◌, length, get_or, sym, refl, ◌∙◌, rules}
 use Rattle.wire.specs.declared.refusals.Refusal.TheVariants.{Malformed}
 use Rattle.wire.specs.declared.kinds.CommandKind.TheVariants.{Put, Sign, Count, Close, Open, Read, SwitchedOn}
 use Rattle.orders.specs.Commands.{command_form, command_forms, shown_command}
