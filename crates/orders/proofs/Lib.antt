@@ -1,3 +1,2 @@
 pub mod AnswerWords
-pub mod ThingBytes
 pub mod ThingWords

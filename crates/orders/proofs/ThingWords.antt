@@ -1,37 +1,29 @@
 -- What is read of a thing.
 use Rattle.std.proofs.Common.{◌≡◌, ℕ, suc, ◌+◌, ◌-◌, ◌*◌, ◌≤◌, Bool, true, false, cond, ◌&&◌, eqb, leb, List, [], ◌∷◌, length, get_or, take, drop, Some, None, Ok, Err, Result, sym, refl, ap, ◌∙◌, arith, eqb-true, le-leb}
-use Rattle.std.proofs.lemmas.List.{take_all, take_rest, length-drop}
+use Rattle.std.proofs.lemmas.List.{take_all, length-drop}
 use Rattle.std.proofs.lemmas.Bool.{and_parts}
 use Rattle.std.proofs.lemmas.Bool.Decides.{same_from_decides, Decides-eqb, Decides-like}
 use Rattle.wire.specs.declared.refusals.Refusal.{Refusal}
 use Rattle.wire.specs.declared.refusals.Refusal.TheVariants.{Malformed}
 use Rattle.wire.specs.Layouts.{Field, Bytes, Number, Counted, number_at, total, fields, allowed, read_form, read_by, read_of, refusing}
-use Rattle.orders.specs.Things.{thing_parts, thing_form, thing_forms, whole_thing}
-use Rattle.wire.proofs.Layouts.{Shifted, shifted, length_part}
+use Rattle.orders.specs.Things.{Counts, thing_parts, thing_form, thing_forms, whole_thing}
+use Rattle.wire.proofs.Layouts.{Shifted, shifted}
 use Rattle.wire.proofs.Words.{whole_form, faulty, refusing_is, true_false}
 
-pub record Taken (w : List ℕ) (n : ℕ) (turned seal : List ℕ) : Type 0 where
-  pub says : n ≡ number_at 49 2 w
-  pub few : n ≤ 1024
-  pub long : length w ≡ 67 + n
-  pub turned_is : turned ≡ take (51 + n - 51) (drop 51 w)
-  pub seal_is : seal ≡ take (67 + n - (51 + n)) (drop (51 + n) w)
-
-pub thing_read : (w : List ℕ) (n number counter : ℕ) (sum turned seal : List ℕ) → Taken w n turned seal → number ≡ number_at 1 8 w → sum ≡ take 32 (drop 9 w) → counter ≡ number_at 41 8 w → Ok (Number 1 2 ∷ Number 8 number ∷ Bytes sum ∷ Number 8 counter ∷ Counted 2 (length turned) turned ∷ Bytes seal ∷ []) ≡ read_form thing_form w
-thing_read w n number counter sum turned seal t a b d =
-    let m : number_at 49 2 w ≡ n = sym t.says in
-    let good : allowed 1 thing_parts w ≡ true = ap (λ (k : ℕ). leb k 1024 && true) m ∙ ap (λ b. b && true) (le-leb n 1024 t.few) in
-    let e : 51 + n - 51 ≡ 1 * number_at 49 2 w = omega arith in
-    let f : 67 + n - (51 + n) ≡ 16 = omega arith in
-    let g : 51 + n ≡ 51 + 1 * number_at 49 2 w = omega arith in
-    let part = t.turned_is ∙ ap (λ (k : ℕ). take k (drop 51 w)) e in
-    let size : length turned ≡ number_at 49 2 w = ap length part ∙ length_part 51 (1 * number_at 49 2 w) w (omega arith) ∙ omega arith in
-    (λ i. Ok (Number 1 2 ∷ Number 8 (a i) ∷ Bytes (b i) ∷ Number 8 (d i) ∷ Counted 2 (size i) (part i) ∷ Bytes ((t.seal_is ∙ (λ j. take (f j) (drop (g j) w))) i) ∷ []))
+pub thing_read : (w : List ℕ) (number counter : ℕ) (sum turned seal : List ℕ) → Counts 49 16 w turned → number ≡ number_at 1 8 w → sum ≡ take 32 (drop 9 w) → counter ≡ number_at 41 8 w → seal ≡ drop (length w - 16) w → Ok (Number 1 2 ∷ Number 8 number ∷ Bytes sum ∷ Number 8 counter ∷ Counted 2 (length turned) turned ∷ Bytes seal ∷ []) ≡ read_form thing_form w
+thing_read w number counter sum turned seal t a b d s =
+    let n : ℕ = 1 * number_at 49 2 w in
+    let same : length turned ≡ n = omega (arith, t.says) in
+    let good : allowed 1 thing_parts w ≡ true = ap (λ (k : ℕ). leb k 1024 && true) (sym t.says) ∙ ap (λ b. b && true) (le-leb _ 1024 t.few) in
+    let place : length w - 16 ≡ 51 + n = omega (arith, t.long) in
+    let left = length-drop (51 + n) w in
+    let rest = s ∙ ap (λ (k : ℕ). drop k w) place ∙ sym (take_all 16 (drop (51 + n) w) (omega (arith, t.long))) in
+    (λ i. Ok (Number 1 2 ∷ Number 8 (a i) ∷ Bytes (b i) ∷ Number 8 (d i) ∷ Counted 2 (t.says i) ((t.is ∙ ap (λ (k : ℕ). take k (drop 51 w)) same) i) ∷ Bytes (rest i) ∷ []))
     ∙ sym (whole_form thing_form w (omega (arith, t.long)) good)
 
 -- ---- a thing inside another word
 
-abbrev under : ℕ → Result (List Field) Refusal → Result (List Field) Refusal
+abbrev pub under : ℕ → Result (List Field) Refusal → Result (List Field) Refusal
 under k (Ok fs) = Ok (Number 1 k ∷ fs)
 under k (Err e) = Err e
 
@@ -66,30 +58,6 @@ nested : (k : ℕ) (w : List ℕ) → 1 ≤ length w → read_form (refusing Mal
 nested k [] h = absurd (omega arith)
 nested k (x ∷ w) h = nested_cons k x w ∙ ap (λ v. under k (read_of Malformed thing_forms v)) (sym (take_all (suc (length w) - 1) w (omega arith)))
 
--- any fault of a thing is that it is malformed
-only_malformed : (w : List ℕ) (e : Refusal) → Err e ≡ read_of Malformed thing_forms w → e ≡ Malformed
-only_malformed w e is = by (eqb (get_or w 0 0) 2) is
-  where
-    in_form : (b : Bool) → Err e ≡ cond b (Ok (Number 1 2 ∷ fields 1 thing_parts w)) (Err Malformed) → e ≡ Malformed
-    in_form true h = let z : ◌≡◌ {A = ℕ} 0 1 = cc in absurd (omega arith)
-    in_form false h = cc
-
-    by : (b : Bool) → Err e ≡ read_by Malformed (cond b (Some thing_form) None) w → e ≡ Malformed
-    by true h = in_form (eqb (total 1 thing_parts w) (length w) && allowed 1 thing_parts w) (h ∙ refusing_is Malformed 2 thing_parts w)
-    by false h = cc
-
 -- a word of this kind whose thing is this part of it
-abbrev inner : List ℕ → List ℕ
-inner w = take (length w - 1) (drop 1 w)
-
-pub inside_fault : (k : ℕ) (w : List ℕ) (e : Refusal) → 1 ≤ length w → Err e ≡ read_of Malformed thing_forms (inner w) → Err Malformed ≡ read_form (refusing Malformed k whole_thing) w
-inside_fault k w e h is = sym (nested k w h ∙ ap (under k) (sym is) ∙ ap (λ x. Err x) (only_malformed (inner w) e is))
-
-pub inside_thing : (k : ℕ) (w : List ℕ) (fs : List Field) → 1 ≤ length w → Ok fs ≡ read_of Malformed thing_forms (inner w) → Ok (Number 1 k ∷ fs) ≡ read_form (refusing Malformed k whole_thing) w
-inside_thing k w fs h is = sym (nested k w h ∙ ap (under k) (sym is))
-
-pub inside_body : (w body : List ℕ) → body ≡ take (length (inner w) - 16) (inner w) → body ≡ take (length w - 17) (drop 1 w)
-inside_body w body e =
-    let p : inner w ≡ drop 1 w = take_rest w 1 in
-    let n : length (inner w) - 16 ≡ length w - 17 = (let l = ap length p ∙ length-drop 1 w in omega arith) in
-    e ∙ (λ i. take (n i) (p i))
+pub inside : (k : ℕ) (w : List ℕ) (r : Result (List Field) Refusal) → 1 ≤ length w → r ≡ read_of Malformed thing_forms (take (length w - 1) (drop 1 w)) → under k r ≡ read_form (refusing Malformed k whole_thing) w
+inside k w r h is = ap (under k) is ∙ sym (nested k w h)

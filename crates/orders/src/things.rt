@@ -5,6 +5,12 @@ pub mod writes;
 
 use wire::digests::Sum;
 
+/// The most bytes that are closed.
+pub const MOST_CLOSED: usize = 1024;
+
+/// How many bytes a seal has.
+pub const SEAL_SIZE: usize = 16;
+
 /// A thing as it was read: its longer parts are parts of the word.
 #[derive(Clone, Copy)]
 pub struct Thing<'a> {

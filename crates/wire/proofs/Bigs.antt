@@ -1,11 +1,11 @@
 -- Numbers, high byte first: written and read again they are the same, and so are the bytes.
-use Rattle.std.proofs.Common.{◌≡◌, ℕ, zero, suc, ◌+◌, ◌-◌, ◌*◌, ◌/◌, ◌%◌, ◌^◌, ◌<◌, ◌≤◌, leb, List, [], ◌∷◌, ◌++◌, length, get_or, take, drop, replicate, sym, refl, ap, ◌∙◌, subst, add-zero, pow-suc, zero-add, add-one, arith, le-leb}
+use Rattle.std.proofs.Common.{◌≡◌, ℕ, zero, suc, ◌+◌, ◌*◌, ◌/◌, ◌%◌, ◌^◌, ◌<◌, ◌≤◌, leb, Bool, true, false, cond, List, [], ◌∷◌, ◌++◌, length, get_or, take, drop, replicate, sym, refl, ap, ◌∙◌, subst, add-zero, pow-suc, zero-add, arith, le-leb}
 use native.Mathlib.Nat.{div-div-eq-div-mul}
 use Rattle.std.specs.Int.Digits.{number_from_digits, number_from_digits_after, AllBelowBase}
 use Rattle.std.proofs.lemmas.Int.Digits.{number_push}
-use Rattle.std.proofs.lemmas.List.{append-nil, append_assoc, length_push, drop_all, drop_more, length-drop, length-take-le}
+use Rattle.std.proofs.lemmas.List.{append-nil, append_assoc, length_push}
 use Rattle.std.proofs.lemmas.Bool.{cond-true}
-use Rattle.wire.specs.Fields.{number_in, bytes_in}
+use Rattle.wire.specs.Fields.{number_in, bytes_in, part_in}
 use Rattle.wire.specs.Layouts.{big, number_at}
 
 pub length_big : (width n : ℕ) → length (big width n) ≡ width
@@ -42,69 +42,18 @@ pub big_number : (ds : List ℕ) → AllBelowBase 256 ds → big (length ds) (nu
 unfolding big
 big_number ds u = ap (λ (k : ℕ). big k (number_from_digits 256 ds)) (sym (zero-add (length ds))) ∙ big_after 0 0 ds u
 
--- ---- a number by its bytes
+-- ---- a number in a word
 
-spelled : ℕ → ℕ → List ℕ → List ℕ
-spelled i zero p = []
-spelled i (suc k) p = get_or p i 0 ∷ spelled (suc i) k p
+zeros_number : (width : ℕ) → number_from_digits 256 (replicate width 0) ≡ 0
+zeros_number zero = refl
+zeros_number (suc width) = zeros_number width
 
-spelled_is : (i k : ℕ) (p : List ℕ) → length p ≡ i + k → spelled i k p ≡ drop i p
-unfolding spelled
-spelled_is i zero p e = sym (drop_all i p (omega arith))
-spelled_is i (suc k) p e = (λ j. get_or p i 0 ∷ (spelled_is (suc i) k p (omega arith) ∙ ap (λ (n : ℕ). drop n p) (sym (add-one i))) j) ∙ sym (drop_more p i 0 (omega arith))
-
--- ---- a part of a word as code takes it
-
-record Taken (at size : ℕ) (w : List ℕ) : Type 0 where
-  long : length (take (at + size - at) (drop at w)) ≡ size
-  is : number_from_digits 256 (take (at + size - at) (drop at w)) ≡ number_at at size w
-
-taken : (at size : ℕ) (w : List ℕ) → at + size ≤ length w → Taken at size w
-taken at size w h =
-    let e : at + size - at ≡ size = omega arith in
-    let l = length-drop at w in
-    record {
-      long = length-take-le (at + size - at) (drop at w) (omega arith) ∙ e;
-      is = ap (λ (k : ℕ). number_at at k w) e;
-    }
-
--- what code puts together of a word's bytes is the number that stands there
-
-abbrev cut : ℕ → ℕ → List ℕ → List ℕ
-cut at size w = take (at + size - at) (drop at w)
-
-two_at : (at : ℕ) (w : List ℕ) (r : ℕ) → at + 2 ≤ length w → r ≡ get_or (cut at 2 w) 0 0 * 256 + get_or (cut at 2 w) 1 0 → r ≡ number_at at 2 w
-unfolding spelled
-two_at at w r h e =
-    let t = taken at 2 w h in
-    let p : List ℕ = cut at 2 w in
-    let n = ap (number_from_digits 256) (spelled_is 0 2 p t.long) in
-    omega (arith, t.is)
-
-four_at : (at : ℕ) (w : List ℕ) (r : ℕ) → at + 4 ≤ length w → r ≡ get_or (cut at 4 w) 0 0 * 16777216 + get_or (cut at 4 w) 1 0 * 65536 + get_or (cut at 4 w) 2 0 * 256 + get_or (cut at 4 w) 3 0 → r ≡ number_at at 4 w
-unfolding spelled
-four_at at w r h e =
-    let t = taken at 4 w h in
-    let p : List ℕ = cut at 4 w in
-    let n = ap (number_from_digits 256) (spelled_is 0 4 p t.long) in
-    omega (arith, t.is)
-
-eight_at : (at : ℕ) (w : List ℕ) (r : ℕ) → at + 8 ≤ length w → r ≡ get_or (cut at 8 w) 0 0 * 72057594037927936 + get_or (cut at 8 w) 1 0 * 281474976710656 + get_or (cut at 8 w) 2 0 * 1099511627776 + get_or (cut at 8 w) 3 0 * 4294967296 + get_or (cut at 8 w) 4 0 * 16777216 + get_or (cut at 8 w) 5 0 * 65536 + get_or (cut at 8 w) 6 0 * 256 + get_or (cut at 8 w) 7 0 → r ≡ number_at at 8 w
-unfolding spelled
-eight_at at w r h e =
-    let t = taken at 8 w h in
-    let p : List ℕ = cut at 8 w in
-    let n = ap (number_from_digits 256) (spelled_is 0 8 p t.long) in
-    omega (arith, t.is)
-
-pub two_in : (at : ℕ) (w : List ℕ) (r : ℕ) → at + 2 ≤ length w → r ≡ get_or (cut at 2 w) 0 0 * 256 + get_or (cut at 2 w) 1 0 → r ≡ number_in at 2 w
-two_in at w r h e = two_at at w r h e ∙ sym (cond-true (leb (at + 2) (length w)) (number_at at 2 w) 0 (le-leb (at + 2) (length w) h))
-
-pub four_in : (at : ℕ) (w : List ℕ) (r : ℕ) → at + 4 ≤ length w → r ≡ get_or (cut at 4 w) 0 0 * 16777216 + get_or (cut at 4 w) 1 0 * 65536 + get_or (cut at 4 w) 2 0 * 256 + get_or (cut at 4 w) 3 0 → r ≡ number_in at 4 w
-four_in at w r h e = four_at at w r h e ∙ sym (cond-true (leb (at + 4) (length w)) (number_at at 4 w) 0 (le-leb (at + 4) (length w) h))
-
-pub eight_in : (at : ℕ) (w : List ℕ) (r : ℕ) → at + 8 ≤ length w → r ≡ get_or (cut at 8 w) 0 0 * 72057594037927936 + get_or (cut at 8 w) 1 0 * 281474976710656 + get_or (cut at 8 w) 2 0 * 1099511627776 + get_or (cut at 8 w) 3 0 * 4294967296 + get_or (cut at 8 w) 4 0 * 16777216 + get_or (cut at 8 w) 5 0 * 65536 + get_or (cut at 8 w) 6 0 * 256 + get_or (cut at 8 w) 7 0 → r ≡ number_in at 8 w
-eight_in at w r h e = eight_at at w r h e ∙ sym (cond-true (leb (at + 8) (length w)) (number_at at 8 w) 0 (le-leb (at + 8) (length w) h))
+pub number_of_part : (width at : ℕ) (w : List ℕ) → number_from_digits 256 (part_in width at w) ≡ number_in at width w
+number_of_part width at w = by (leb (at + width) (length w))
+  where
+    by : (b : Bool) → number_from_digits 256 (cond b (take width (drop at w)) (replicate width 0)) ≡ cond b (number_at at width w) 0
+    by true = refl
+    by false = zeros_number width
 
 -- within the word there are no zeros but its own
 

@@ -1,11 +1,11 @@
 -- Fields written one after another.
-use Rattle.std.proofs.Common.{◌≡◌, ℕ, ◌+◌, ◌-◌, ◌<◌, ◌≤◌, Bool, true, false, cond, leb, List, [], ◌∷◌, ◌++◌, length, get_or, take, drop, Some, None, Option, sym, refl, ap, ◌∙◌, arith, leb-true}
+use Rattle.std.proofs.Common.{◌≡◌, ℕ, ◌+◌, ◌-◌, ◌<◌, ◌≤◌, Bool, true, false, List, [], ◌∷◌, ◌++◌, length, get_or, take, drop, Some, None, Option, SomeIff, sym, refl, ap, ◌∙◌, subst, add-zero, arith, ◌^◌}
 use borrow.Rule.Slice.PartMut.{put_mid}
-use Rattle.std.proofs.lemmas.List.{append-nil, append_assoc, length-append, take_at, take_all, drop-drop, drop_at, take-append-drop, map-append, map_more}
-use Rattle.std.proofs.lemmas.Bool.{cond-true}
-use Rattle.std.proofs.lemmas.Bool.Decides.{nat_tests}
+use Rattle.std.proofs.lemmas.List.{append-nil, append_assoc, length-append, take_at, drop-drop, drop_at, take-append-drop, map-append, map_more}
+use Rattle.std.specs.List.{fold}
+use Rattle.std.specs.Bool.{MatchBool}
 use Rattle.wire.specs.declared.fields.Field as code
-use Rattle.wire.specs.Fields.{field_of, fields_of, pasted, written}
+use Rattle.wire.specs.Fields.{field_of, fields_of, pasted}
 use Rattle.wire.specs.Layouts.{Field, bytes_of, encoded}
 
 encoded_append : (fs gs : List Field) → encoded (fs ++ gs) ≡ encoded fs ++ encoded gs
@@ -33,26 +33,32 @@ first_front fs i =
     let l = ap length e ∙ length-append (first i fs) (encoded (fields_of (drop i fs))) in
     omega arith
 
-pub first_all : (fs : List code.Field) (i : ℕ) → length fs ≤ i → first i fs ≡ encoded (fields_of fs)
-first_all fs i h = ap (λ x. encoded (fields_of x)) (take_all i fs h)
+-- ---- how many bytes they have
 
--- ---- is there room
+-- one field's bytes more
+abbrev pub with : ℕ → code.Field → ℕ
+with n f = n + length (bytes_of (field_of f))
 
-abbrev roomy : List ℕ → ℕ → Option ℕ
-roomy bs limit = cond (leb (length bs) limit) (Some (length bs)) None
+fold_with : (fs : List code.Field) (n : ℕ) → fold with n fs ≡ n + length (encoded (fields_of fs))
+fold_with [] n = sym (add-zero n)
+fold_with (f ∷ fs) n =
+    let h = fold_with fs (with n f) in
+    let l = length-append (bytes_of (field_of f)) (encoded (fields_of fs)) in
+    omega arith
 
-pub too_long : (fs : List code.Field) (i : ℕ) (d : code.Field) (size more limit : ℕ) → i < length fs → size ≡ length (first i fs) → size ≤ limit → more ≡ length (bytes_of (field_of (get_or fs i d))) → limit - size < more → None ≡ roomy (encoded (fields_of fs)) limit
-too_long fs i d size more limit h s k m x =
-    let a = first_front fs (i + 1) in
-    let b = size_more fs i d size h s in
-    let t : leb (length (encoded (fields_of fs))) limit ≡ false = grind (arith, nat_tests) in
-    sym (ap (λ c. cond c (Some (length (encoded (fields_of fs)))) None) t)
+pub told : (fs : List code.Field) (r : Option ℕ) (n : ℕ) → r ≡ Some n → n < 2 ^ 64 → n ≡ fold with 0 fs → SomeIff r (length (encoded (fields_of fs)) < 2 ^ 64) (length (encoded (fields_of fs)))
+told fs r n is small e =
+    let l = fold_with fs 0 in
+    subst (λ o. SomeIff o (length (encoded (fields_of fs)) < 2 ^ 64) (length (encoded (fields_of fs)))) (sym is) (omega arith, omega arith)
 
-pub enough : (fs : List code.Field) (i size limit : ℕ) → length fs ≤ i → size ≡ length (first i fs) → size ≤ limit → Some size ≡ roomy (encoded (fields_of fs)) limit
-enough fs i size limit h s k =
-    let a = s ∙ ap length (first_all fs i h) in
-    let t : leb (length (encoded (fields_of fs))) limit ≡ true = grind (arith, nat_tests) in
-    ap (λ (n : ℕ). Some n) a ∙ sym (ap (λ c. cond c (Some (length (encoded (fields_of fs)))) None) t)
+pub untold : (fs : List code.Field) (r : Option ℕ) → r ≡ None → 2 ^ 64 ≤ fold with 0 fs → SomeIff r (length (encoded (fields_of fs)) < 2 ^ 64) (length (encoded (fields_of fs)))
+untold fs r is large =
+    let l = fold_with fs 0 in
+    subst (λ o. SomeIff o (length (encoded (fields_of fs)) < 2 ^ 64) (length (encoded (fields_of fs)))) (sym is) (λ h. omega arith)
+
+pub either : {P Q R : Type 0} (b : Bool) → MatchBool b P Q → (b ≡ true → P → R) → (b ≡ false → Q → R) → R
+either true m on off = on refl m
+either false m on off = off refl m
 
 -- ---- writing
 
@@ -69,18 +75,10 @@ paste_more at done part before e =
     sym (drop-drop (length part) at (done ++ drop at before)) ∙ ap (drop (length part)) (drop_at done (drop at before) at (sym e)) ∙ drop-drop (length part) at before in
     (λ i. t i ++ (part ++ d i)) ∙ sym (append_assoc done part (drop (at + length part) before))
 
-fitted : (bs : List ℕ) (limit size : ℕ) → Some size ≡ roomy bs limit → (size ≡ length bs) × (leb (length bs) limit ≡ true)
-fitted bs limit size = by (leb (length bs) limit)
-  where
-    by : (b : Bool) → Some size ≡ cond b (Some (length bs)) None → (size ≡ length bs) × (b ≡ true)
-    by true e = (cc, refl)
-    by false e = let z : ◌≡◌ {A = ℕ} 0 1 = cc in absurd (omega arith)
-
-pub step_fits : (fs : List code.Field) (i : ℕ) (d : code.Field) (at limit size : ℕ) → i < length fs → at ≡ length (first i fs) → Some size ≡ roomy (encoded (fields_of fs)) limit → at + length (bytes_of (field_of (get_or fs i d))) ≤ limit
-step_fits fs i d at limit size h a r =
+pub step_fits : (fs : List code.Field) (i : ℕ) (d : code.Field) (at limit : ℕ) → i < length fs → at ≡ length (first i fs) → length (encoded (fields_of fs)) ≤ limit → at + length (bytes_of (field_of (get_or fs i d))) ≤ limit
+step_fits fs i d at limit h a r =
     let p = first_front fs (i + 1) in
     let b = size_more fs i d at h a in
-    let t = leb-true _ _ (fitted (encoded (fields_of fs)) limit size r).1 in
     omega arith
 
 -- one field more
@@ -100,19 +98,3 @@ sofar_more fs i at d before now after size s h m e =
           e ∙ ap (pasted at part) s.is ∙ paste_more at (first i fs) part before s.place
           ∙ (λ j. sym (first_more fs i d h) j ++ drop (at + sym m j) before);
     }
-
-pub all_written : (fs : List code.Field) (i at : ℕ) (before now : List ℕ) (size : ℕ) → Sofar fs i at before now → length fs ≤ i → Some size ≡ roomy (encoded (fields_of fs)) (length before) → (Some size, now) ≡ written (encoded (fields_of fs)) before
-all_written fs i at before now size s h r =
-    let bs : List ℕ = encoded (fields_of fs) in
-    let whole : first i fs ≡ bs = first_all fs i h in
-    let f = fitted bs (length before) size r in
-    let place : at ≡ length bs = s.place ∙ ap length whole in
-    (λ j. (Some (f.0 j), (s.is ∙ (λ k. whole k ++ drop (place k) before)) j))
-    ∙ sym (cond-true (leb (length bs) (length before)) (Some (length bs), bs ++ drop (length bs) before) (None, before) f.1)
-
-pub nothing_written : (fs : List code.Field) (before : List ℕ) → None ≡ roomy (encoded (fields_of fs)) (length before) → (None, before) ≡ written (encoded (fields_of fs)) before
-nothing_written fs before = by (leb (length (encoded (fields_of fs))) (length before))
-  where
-    by : (b : Bool) → None ≡ cond b (Some (length (encoded (fields_of fs)))) None → ◌≡◌ {A = Option ℕ × List ℕ} (None, before) (cond b (Some (length (encoded (fields_of fs))), encoded (fields_of fs) ++ drop (length (encoded (fields_of fs))) before) (None, before))
-    by true e = let z : ◌≡◌ {A = ℕ} 0 1 = cc in absurd (omega arith)
-    by false e = refl

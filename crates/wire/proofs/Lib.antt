@@ -1,5 +1,4 @@
 pub mod Bigs
-pub mod EightBytes
 pub mod FieldWrites
 pub mod Layouts
 pub mod RefusalNumbers

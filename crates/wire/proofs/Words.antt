@@ -1,6 +1,7 @@
 -- Every reader of words is exact.
-use Rattle.std.proofs.Common.{◌≡◌, ℕ, suc, ◌%◌, ◌<◌, ◌≤◌, Bool, true, false, cond, ◌&&◌, eqb, ltb, List, [], ◌∷◌, ◌++◌, length, get_or, drop, Some, None, Ok, Err, Option, Result, sym, refl, ap, ◌∙◌, subst, arith, w8, ltb-false, eq-eqb, eqb-true}
+use Rattle.std.proofs.Common.{◌≡◌, ◌≢◌, ℕ, suc, ◌%◌, ◌<◌, ◌≤◌, Bool, true, false, cond, ◌&&◌, eqb, ltb, List, [], ◌∷◌, ◌++◌, length, get_or, drop, Some, None, Ok, Err, Option, Result, sym, refl, ap, ◌∙◌, subst, arith, w8, ltb-false, eq-eqb, eqb-true}
 use mir.Val as val
+use Rattle.std.specs.List.{AllByRecursion}
 use Rattle.std.specs.Int.Digits.{AllBelowBase}
 use Rattle.std.proofs.lemmas.List.{length-append, nil_from_length}
 use Rattle.std.proofs.lemmas.Bool.{cond-true, cond-false}
@@ -67,6 +68,18 @@ refusing_is k kind ps w = by (eqb (total 1 ps w) (length w)) (allowed 1 ps w) re
 
 pub known : (unknown : Refusal) (forms : List Form) (k : ℕ) (f : Form) (w : List ℕ) → get_or w 0 0 ≡ k → find forms k ≡ Some f → read_of unknown forms w ≡ read_form f w
 known unknown forms k f w is e = ap (λ o. read_by unknown o w) (ap (find forms) is ∙ e)
+
+-- of a kind that no form has
+find_none : (forms : List Form) (k : ℕ) → AllByRecursion (λ f. f.kind ≢ k) forms → find forms k ≡ None
+find_none [] k u = refl
+find_none (f ∷ fs) k u = by (eqb k f.kind) refl (find_none fs k u.1)
+  where
+    by : (b : Bool) → eqb k f.kind ≡ b → find fs k ≡ None → cond b (Some f) (find fs k) ≡ None
+    by true t more = absurd (u.0 (sym (eqb-true k f.kind t)))
+    by false t more = more
+
+pub unknown_kind : (unknown : Refusal) (forms : List Form) (w : List ℕ) → AllByRecursion (λ f. f.kind ≢ get_or w 0 0) forms → read_of unknown forms w ≡ Err unknown
+unknown_kind unknown forms w u = ap (λ o. read_by unknown o w) (find_none forms (get_or w 0 0) u)
 
 -- ---- words
 

@@ -28,6 +28,10 @@ written bs before = cond (nat_le (length bs) (length before)) (Some (length bs),
 abbrev pub number_in : ℕ → ℕ → List ℕ → ℕ
 number_in at width w = cond (nat_le (at + width) (length w)) (number_at at width w) 0
 
+-- so many bytes
+abbrev pub part_in : ℕ → ℕ → List ℕ → List ℕ
+part_in size at w = cond (nat_le (at + size) (length w)) (take size (drop at w)) (replicate size 0)
+
 abbrev pub bytes_in : ℕ → List ℕ → List ℕ
 bytes_in at w = cond (nat_le (at + 32) (length w)) (take 32 (drop at w)) (replicate 32 0)
 

@@ -1,5 +1,10 @@
 -- The numbers by which kinds of words are told: a word's first byte.
-use Rattle.std.specs.Prelude.{ℕ}
+use Rattle.std.specs.Prelude.{◌≡◌, ◌≢◌, ℕ, Result, MatchResult}
+use Rattle.wire.specs.declared.kinds.CommandKind.{CommandKind}
+use Rattle.wire.specs.declared.kinds.CommandKind.TheVariants as command
+use Rattle.wire.specs.declared.kinds.AnswerKind.{AnswerKind}
+use Rattle.wire.specs.declared.kinds.AnswerKind.TheVariants as answer
+use Rattle.wire.specs.declared.kinds.UnknownKind.{UnknownKind}
 
 -- commands to a chip
 abbrev pub put : ℕ
@@ -80,3 +85,28 @@ start_list = 54
 
 abbrev pub program : ℕ
 program = 55
+
+-- ---- the kinds that code tells apart
+
+abbrev pub number_of_command : CommandKind → ℕ
+number_of_command command.Put = put
+number_of_command command.Sign = sign
+number_of_command command.Count = count
+number_of_command command.Close = close
+number_of_command command.Open = «open»
+number_of_command command.Read = read
+number_of_command command.SwitchedOn = switched_on
+
+abbrev pub number_of_answer : AnswerKind → ℕ
+number_of_answer answer.Done = done
+number_of_answer answer.Signed = signed
+number_of_answer answer.Counter = counter
+number_of_answer answer.Closed = closed
+number_of_answer answer.Opened = opened
+number_of_answer answer.Now = now
+number_of_answer answer.Refused = refused
+number_of_answer answer.Accepted = accepted
+
+-- the kind that has this number, or that no kind has it
+abbrev pub Told : {K : Type 0} → (K → ℕ) → ℕ → Result K UnknownKind → Type 0
+Told {K} number_of n r = MatchResult r (λ k. number_of k ≡ n) (λ e. (e.0 ≡ n) × ((k : K) → number_of k ≢ n))

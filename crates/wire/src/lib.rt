@@ -4,5 +4,6 @@
 
 pub mod digests;
 pub mod fields;
+pub mod kinds;
 pub mod numbers;
 pub mod refusals;

@@ -1,68 +1,110 @@
 //! Bytes and numbers at a place of a word, high byte first. A word that ends before they do has zeros there.
 
-ghost use Rattle.std.specs.Prelude.{◌≡◌, length};
-ghost use Rattle.wire.specs.Fields.{bytes_in, number_in, read_eight, written_eight};
+ghost use Rattle.std.specs.Prelude.{◌≡◌, ◌^◌, ◌<◌, ℕ, length, is_some};
+ghost use Rattle.std.proofs.Common.{lit<};
+ghost use Rattle.std.specs.Int.Digits.{number_from_digits};
+ghost use Rattle.wire.specs.Fields.{number_in, part_in, read_eight, written_eight};
+ghost use Rattle.wire.specs.Layouts.{big};
 
-/// The thirty-two bytes that begin at this place.
-pub fn bytes_at(word: &[u8], at: usize) -> [u8; 32]
-    ensures { result ≡ bytes_in at word.now }
-{
-    let mut bytes = [0; 32];
-    if word.len() >= 32 && at <= word.len() - 32 {
-        bytes.copy_from_slice(&word[at..at + 32]);
-    }
-    bytes
+/// A number that stands in `N` bytes, high byte first.
+pub trait BigEndian<const N: usize>: Sized {
+    /// Which number it is.
+    ghost value: { Self → ℕ };
+
+    fn from_bytes(bytes: &[u8; N]) -> Self
+        ensures { value result ≡ number_from_digits 256 bytes.now };
+
+    fn to_bytes(self) -> [u8; N]
+        ensures { result ≡ big N (value self) };
+
+    /// An array may have so many bytes.
+    ghost few: { N < 2 ^ 63 };
 }
 
-pub fn u16_at(word: &[u8], at: usize) -> u16
-    ensures { result ≡ number_in at 2 word.now }
-{
-    if word.len() < 2 || at > word.len() - 2 {
-        return 0;
+impl BigEndian<1> for u8 {
+    ghost value = { λ n. n };
+
+    ghost few = { lit< tt };
+
+    fn from_bytes(bytes: &[u8; 1]) -> u8 {
+        u8::from_be_bytes(*bytes)
     }
-    let part = &word[at..at + 2];
-    u16::from_be_bytes([part[0], part[1]])
+
+    fn to_bytes(self) -> [u8; 1] {
+        self.to_be_bytes()
+    }
 }
 
-pub fn u32_at(word: &[u8], at: usize) -> u32
-    ensures { result ≡ number_in at 4 word.now }
-{
-    if word.len() < 4 || at > word.len() - 4 {
-        return 0;
+impl BigEndian<2> for u16 {
+    ghost value = { λ n. n };
+
+    ghost few = { lit< tt };
+
+    fn from_bytes(bytes: &[u8; 2]) -> u16 {
+        u16::from_be_bytes(*bytes)
     }
-    let part = &word[at..at + 4];
-    u32::from_be_bytes([part[0], part[1], part[2], part[3]])
+
+    fn to_bytes(self) -> [u8; 2] {
+        self.to_be_bytes()
+    }
 }
 
-pub fn u64_at(word: &[u8], at: usize) -> u64
-    ensures { result ≡ number_in at 8 word.now }
-{
-    if word.len() < 8 || at > word.len() - 8 {
-        return 0;
+impl BigEndian<4> for u32 {
+    ghost value = { λ n. n };
+
+    ghost few = { lit< tt };
+
+    fn from_bytes(bytes: &[u8; 4]) -> u32 {
+        u32::from_be_bytes(*bytes)
     }
-    let part = &word[at..at + 8];
-    u64::from_be_bytes([
-        part[0], part[1], part[2], part[3], part[4], part[5], part[6], part[7],
-    ])
+
+    fn to_bytes(self) -> [u8; 4] {
+        self.to_be_bytes()
+    }
+}
+
+impl BigEndian<8> for u64 {
+    ghost value = { λ n. n };
+
+    ghost few = { lit< tt };
+
+    fn from_bytes(bytes: &[u8; 8]) -> u64 {
+        u64::from_be_bytes(*bytes)
+    }
+
+    fn to_bytes(self) -> [u8; 8] {
+        self.to_be_bytes()
+    }
+}
+
+/// The `N` bytes that begin at this place.
+pub fn bytes_at<const N: usize>(word: &[u8], at: usize) -> [u8; N]
+    ensures { result ≡ part_in N at word.now }
+{
+    let rest = word.get(at..).unwrap_or(&[]);
+    rest.first_chunk().copied().unwrap_or([0; N])
+}
+
+/// The number that begins at this place.
+pub fn number_at<const N: usize, T: BigEndian<N>>(word: &[u8], at: usize) -> T
+    ensures { T.value result ≡ number_in at N word.now }
+{
+    T::from_bytes(&bytes_at(word, at))
 }
 
 /// The counter or number that a slice of eight bytes holds.
 pub fn read_u64(bytes: &[u8]) -> Option<u64>
     ensures { result ≡ read_eight bytes.now }
 {
-    if bytes.len() != 8 {
-        return None;
-    }
-    Some(u64_at(bytes, 0))
+    let bytes: &[u8; 8] = bytes.try_into().ok()?;
+    Some(u64::from_bytes(bytes))
 }
 
-/// Writes a counter or number into a slice of eight bytes, and leaves one of another length as it is.
-pub fn write_u64(out: &mut [u8], number: u64) -> bool
-    ensures { (result, out.new) ≡ written_eight number out.old }
+/// Writes a counter or number into a slice of eight bytes; one of another length stays as it is.
+pub fn write_u64(out: &mut [u8], number: u64) -> Option<()>
+    ensures { (is_some result, out.new) ≡ written_eight number out.old }
 {
-    if out.len() != 8 {
-        return false;
-    }
-    out.copy_from_slice(&number.to_be_bytes());
-    true
+    let bytes = out.as_mut_array()?;
+    *bytes = number.to_bytes();
+    Some(())
 }

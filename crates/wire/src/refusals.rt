@@ -1,76 +1,81 @@
 //! Why a chip, a loader or a judge refuses.
 
-ghost use Rattle.std.specs.Prelude.{◌≡◌};
+ghost use Rattle.std.specs.Prelude.{◌≡◌, IfErr};
+ghost use Rattle.std.specs.Result.{result_ok};
+ghost use Rattle.wire.specs.declared.refusals.Refusal.TheVariants.{Malformed};
 ghost use Rattle.wire.specs.Refusals.{number_of, refusal_of};
 
-#[derive(Clone, Copy)]
+/// Its number is the one by which it is told.
+#[derive(Clone, Copy, Debug, PartialEq, Eq)]
 pub enum Refusal {
     /// An unknown kind of word, a cut one, or bytes after its end.
-    Malformed,
+    Malformed = 1,
     /// A thing whose last bytes do not fit.
-    BadSeal,
+    BadSeal = 2,
     /// A thing for another sum.
-    OtherSum,
+    OtherSum = 3,
     /// A thing of another counter.
-    OtherCounter,
+    OtherCounter = 4,
     /// The counter, or the number of things, is at 2^63.
-    UsedUp,
+    UsedUp = 5,
     /// Neither of the chip's two places fits any more.
-    NoPlace,
+    NoPlace = 6,
     /// A start list that cannot be read, or a program that is not there or too long.
-    NoProgram,
+    NoProgram = 7,
     /// A chip that the judge does not know.
-    UnknownChip,
+    UnknownChip = 8,
     /// No such question is open.
-    NoQuestion,
+    NoQuestion = 9,
     /// A list that is not there, cut, empty, too long, given twice, one too many, or not with the first program first;
     /// a chip given twice or one too many; an office's list cut, too long or given twice.
-    BadList,
+    BadList = 10,
     /// A signature that does not fit.
-    BadSign,
+    BadSign = 11,
     /// Drawn bytes are used up.
-    NoDraws,
+    NoDraws = 12,
 }
 
-impl Refusal {
-    /// The number by which a refusal is told.
-    pub fn number(self) -> u8
-        ensures { result ≡ number_of self }
-    {
-        match self {
-            Refusal::Malformed => 1,
-            Refusal::BadSeal => 2,
-            Refusal::OtherSum => 3,
-            Refusal::OtherCounter => 4,
-            Refusal::UsedUp => 5,
-            Refusal::NoPlace => 6,
-            Refusal::NoProgram => 7,
-            Refusal::UnknownChip => 8,
-            Refusal::NoQuestion => 9,
-            Refusal::BadList => 10,
-            Refusal::BadSign => 11,
-            Refusal::NoDraws => 12,
-        }
-    }
+/// A number by which no refusal is told.
+#[derive(Clone, Copy, Debug, PartialEq, Eq)]
+pub struct UnknownRefusal(pub u8);
 
-    /// The refusal that is told by this number.
-    pub fn of_number(number: u8) -> Option<Refusal>
-        ensures { result ≡ refusal_of number }
-    {
+/// A word that tells no refusal where it should is malformed.
+impl From<UnknownRefusal> for Refusal {
+    ghost from_gives = { λ _ refusal. refusal ≡ Malformed };
+
+    fn from(_number: UnknownRefusal) -> Refusal {
+        Refusal::Malformed
+    }
+}
+
+impl From<Refusal> for u8 {
+    ghost from_gives = { λ refusal number. number ≡ number_of refusal };
+
+    fn from(refusal: Refusal) -> u8 {
+        refusal as u8
+    }
+}
+
+impl TryFrom<u8> for Refusal {
+    type Error = UnknownRefusal;
+
+    ghost try_from_gives = { λ number r. (result_ok r ≡ refusal_of number) × IfErr r (λ e. e.0 ≡ number) };
+
+    fn try_from(number: u8) -> Result<Refusal, UnknownRefusal> {
         match number {
-            1 => Some(Refusal::Malformed),
-            2 => Some(Refusal::BadSeal),
-            3 => Some(Refusal::OtherSum),
-            4 => Some(Refusal::OtherCounter),
-            5 => Some(Refusal::UsedUp),
-            6 => Some(Refusal::NoPlace),
-            7 => Some(Refusal::NoProgram),
-            8 => Some(Refusal::UnknownChip),
-            9 => Some(Refusal::NoQuestion),
-            10 => Some(Refusal::BadList),
-            11 => Some(Refusal::BadSign),
-            12 => Some(Refusal::NoDraws),
-            _ => None,
+            1 => Ok(Refusal::Malformed),
+            2 => Ok(Refusal::BadSeal),
+            3 => Ok(Refusal::OtherSum),
+            4 => Ok(Refusal::OtherCounter),
+            5 => Ok(Refusal::UsedUp),
+            6 => Ok(Refusal::NoPlace),
+            7 => Ok(Refusal::NoProgram),
+            8 => Ok(Refusal::UnknownChip),
+            9 => Ok(Refusal::NoQuestion),
+            10 => Ok(Refusal::BadList),
+            11 => Ok(Refusal::BadSign),
+            12 => Ok(Refusal::NoDraws),
+            _ => Err(UnknownRefusal(number)),
         }
     }
 }

@@ -7,8 +7,10 @@ ghost use Rattle.orders.specs.Writes.{fits_answer, writes};
 
 use crate::answers::Answer;
 use crate::answers::reads::are_flags;
+use crate::things::MOST_CLOSED;
 use wire::fields::Field;
 use wire::fields::writes::write;
+use wire::kinds::AnswerKind;
 
 impl Answer<'_> {
     /// Writes the answer at the slice's beginning and tells how many bytes it has, or writes nothing if it does not fit.
@@ -16,17 +18,26 @@ impl Answer<'_> {
         ensures { (result, out.new) ≡ writes (fits_answer self.entry) (encoded (shown_answer self.entry)) out.old }
     {
         match self {
-            Answer::Done => write(&[Field::U8(16)], out),
-            Answer::Signed(sign) => write(&[Field::U8(17), Field::Part(&sign.bytes)], out),
-            Answer::Counter(counter) => write(&[Field::U8(18), Field::U64(counter)], out),
-            Answer::Closed(thing) => thing.write_after(19, out),
+            Answer::Done => write(&[Field::U8(AnswerKind::Done.into())], out),
+            Answer::Signed(sign) => write(
+                &[
+                    Field::U8(AnswerKind::Signed.into()),
+                    Field::Part(&sign.bytes),
+                ],
+                out,
+            ),
+            Answer::Counter(counter) => write(
+                &[Field::U8(AnswerKind::Counter.into()), Field::U64(counter)],
+                out,
+            ),
+            Answer::Closed(thing) => thing.write_after(AnswerKind::Closed.into(), out),
             Answer::Opened(bytes) => {
-                if bytes.len() > 1024 {
+                if bytes.len() > MOST_CLOSED {
                     return None;
                 }
                 write(
                     &[
-                        Field::U8(20),
+                        Field::U8(AnswerKind::Opened.into()),
                         Field::U16(bytes.len() as u16),
                         Field::Part(bytes),
                     ],
@@ -34,20 +45,26 @@ impl Answer<'_> {
                 )
             }
             Answer::Now(counter, sum) => write(
-                &[Field::U8(21), Field::U64(counter), Field::Part(&sum.bytes)],
+                &[
+                    Field::U8(AnswerKind::Now.into()),
+                    Field::U64(counter),
+                    Field::Part(&sum.bytes),
+                ],
                 out,
             ),
-            Answer::Refused(why) => write(&[Field::U8(32), Field::U8(why.number())], out),
+            Answer::Refused(why) => write(
+                &[Field::U8(AnswerKind::Refused.into()), Field::U8(why.into())],
+                out,
+            ),
             Answer::Accepted(list, flags) => {
-                if flags.is_empty() || flags.len() > 16 || !are_flags(flags) {
+                if !are_flags(flags) {
                     return None;
                 }
-                let count = flags.len() as u8;
                 write(
                     &[
-                        Field::U8(33),
+                        Field::U8(AnswerKind::Accepted.into()),
                         Field::U16(list),
-                        Field::U8(count),
+                        Field::U8(flags.len() as u8),
                         Field::Part(flags),
                     ],
                     out,

@@ -1,6 +1,10 @@
-use Rattle.std.proofs.Common.{arith}
+use Rattle.std.proofs.Common.{◌++◌, ap, ◌∙◌, rules}
+use Rattle.wire.specs.Layouts.{big, encoded}
+use Rattle.orders.specs.Things.{shown_thing}
+use Rattle.orders.specs.Writes.{fits_thing, writes}
 use Rattle.orders.proofs.things.Thing.write_after.Goals as goal
-use Rattle.orders.proofs.ThingBytes.{wrote_inside}
+use Rattle.wire.proofs.Bigs.{one_byte}
 
 pub returns : goal.returns
-returns c = wrote_inside c.args.kind c.args.self c.args.out.now _ (omega arith) (omega arith) (omega arith) c.lay.ensures
+unfolding big
+returns c = c.write_headed.ensures ∙ ap (λ first. writes (fits_thing c.args.self) (first ++ encoded (shown_thing c.args.self)) c.args.out.now) (one_byte c.args.kind (search rules))
