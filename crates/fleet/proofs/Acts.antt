@@ -38,7 +38,7 @@ use Rattle.boot.proofs.Worlds as boots
 use Rattle.verifier.specs.Searches.{some, is_digest}
 use Rattle.fleet.specs.declared.fleets.Act.{Act}
 use Rattle.fleet.specs.declared.fleets.Act.TheVariants.{Switch, Start, Load, Give, Keep, Run as RunBad, CutCount, CutClose}
-use Rattle.fleet.specs.Sights.{Sight, tainted, any_bad_of, with_machine, with_chip, with_disk, showing, or_before, chip_after, closed_chip, opening_told, running, machine_at, acted}
+use Rattle.fleet.specs.Sights.{Sight, tainted, any_bad_of, with_machine, with_chip, with_disk, showing, or_before, chip_after, opening_told, running, machine_at, acted}
 use Rattle.fleet.specs.declared.fleets.Fault.{Fault}
 use Rattle.fleet.specs.declared.fleets.Report.{Report}
 use Rattle.fleet.specs.declared.fleets.Shown.{Shown}
@@ -168,7 +168,7 @@ module _ (o : Setting) (s : Sight) (i : ℕ) (w : World) (below : i < length s.m
       let (u, k) = (steps.switches c).switches o.programs (on_machine i g w) i h in
       record { steps = 2; run = onward (onward here t) u; stands = moved o s i _ w _ s.heard below f (record { chip_stands = k; ran_is = sym (ap (λ m. m.ran) (at_same i _ (on_machine i g w).machines)) }) (λ j other. at_other i _ (on_machine i g w).machines j other ∙ at_other i _ w.machines j other) refl (told f) }
 
-  cut_close_goes : (t : Target) (d : Data) (b : Bool) → may_close x ≡ b → Goes o (with_machine i (machine.switched (with_chip x (closed_chip x.chip (closes t d b)))) s) w (on_machine i effect.switched (cond b (on_machine i effect.passed_over w) w))
+  cut_close_goes : (t : Target) (d : Data) (b : Bool) → may_close x ≡ b → Goes o (with_machine i (machine.switched (with_chip x (chip_after x.chip (closes t d b)))) s) w (on_machine i effect.switched (cond b (on_machine i effect.passed_over w) w))
   cut_close_goes t d true e = cut _ effect.passed_over ((steps.stepped x.chip (command.Close t d) _ refl).passes_over o.programs w i _ _ st.chip_stands (ap (λ b. chip.as_closed (closes t d b)) e))
   cut_close_goes t d false e = switch_goes
 

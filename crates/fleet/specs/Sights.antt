@@ -7,7 +7,6 @@ use Rattle.device.specs.declared.chips.Command.{Command}
 use Rattle.device.specs.declared.chips.Command.TheVariants as command
 use Rattle.device.specs.declared.chips.Signature.{Signature}
 use Rattle.device.specs.declared.chips.Target.TheVariants as target
-use Rattle.device.specs.declared.chips.Thing.{Thing}
 use Rattle.device.specs.declared.digests.Data.{Data}
 use Rattle.device.specs.declared.digests.Digest.{Digest}
 use Rattle.device.specs.declared.refusals.Refusal.{Refusal}
@@ -112,8 +111,8 @@ started i s o = (with_disk o.0 (with_machine i o.1.0 s), done_or o.1.1)
 abbrev pub loaded : ℕ → Sight → Machine → Asked → Sight × Result Report Fault
 loaded i s x o = (with_disk o.0 (with_machine i (or_before x o.1) s), done_or o.1)
 
--- the chip answered, or refused
-abbrev pub chip_after : Chip → Result (Chip × Answer) Refusal → Chip
+-- the chip after a command, or as it was where it refused
+abbrev pub chip_after : {A : Type 0} → Chip → Result (Chip × A) Refusal → Chip
 chip_after c (Ok r) = r.0
 chip_after c (Err k) = c
 
@@ -154,18 +153,13 @@ running i s x (Some r) = (with_machine i (record { chip = x.chip; ran = r }) s, 
 abbrev pub no_data : Data
 no_data = record { bytes = replicate 32 0 }
 
--- the chip after it closed something, which is lost
-abbrev pub closed_chip : Chip → Result (Chip × Thing) Refusal → Chip
-closed_chip c (Ok r) = r.0
-closed_chip c (Err k) = c
-
 -- power is lost while the chip counts, before or after the counter was written
 abbrev pub cut_counting : Machine → Bool → Machine
 cut_counting x b = machine.switched (with_chip x (cond b (or_before x.chip (chip.counted x.chip)) x.chip))
 
--- and while it closes
+-- and while it closes: what would have been closed is lost
 abbrev pub cut_closing : Machine → Machine
-cut_closing x = machine.switched (with_chip x (closed_chip x.chip (chip.closed x.chip target.Nowhere no_data)))
+cut_closing x = machine.switched (with_chip x (chip_after x.chip (chip.closed x.chip target.Nowhere no_data)))
 
 -- the machine x stands at i
 abbrev pub acted : Bool → ℕ → Sight → Machine → Act → Sight × Result Report Fault

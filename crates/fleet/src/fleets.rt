@@ -119,18 +119,18 @@ pub enum Fault {
 }
 
 impl From<Refusal> for Fault {
-    ghost from_gives = { λ why f. f ≡ Refused why };
+    ghost from_gives = { λ refusal fault. fault ≡ Refused refusal };
 
-    fn from(why: Refusal) -> Fault {
-        Fault::Refused(why)
+    fn from(refusal: Refusal) -> Fault {
+        Fault::Refused(refusal)
     }
 }
 
 impl From<judges::Fault> for Fault {
-    ghost from_gives = { λ why f. f ≡ fault_of why };
+    ghost from_gives = { λ fault own. own ≡ fault_of fault };
 
-    fn from(why: judges::Fault) -> Fault {
-        match why {
+    fn from(fault: judges::Fault) -> Fault {
+        match fault {
             judges::Fault::Refused(why) => Fault::Refused(why),
             judges::Fault::NoMemory => Fault::NoMemory,
         }
@@ -138,17 +138,17 @@ impl From<judges::Fault> for Fault {
 }
 
 impl From<AllocError> for Fault {
-    ghost from_gives = { λ _ f. f ≡ NoMemory };
+    ghost from_gives = { λ _ fault. fault ≡ NoMemory };
 
-    fn from(_why: AllocError) -> Fault {
+    fn from(_error: AllocError) -> Fault {
         Fault::NoMemory
     }
 }
 
 impl<T: Drop> From<AllocFailed<T>> for Fault {
-    ghost from_gives = { λ _ f. f ≡ NoMemory };
+    ghost from_gives = { λ _ fault. fault ≡ NoMemory };
 
-    fn from(_why: AllocFailed<T>) -> Fault {
-        Fault::NoMemory
+    fn from(failed: AllocFailed<T>) -> Fault {
+        Fault::from(AllocError::from(failed))
     }
 }

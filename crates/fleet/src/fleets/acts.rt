@@ -148,9 +148,6 @@ fn cut_close(machine: Machine) -> Machine
     ensures { result ≡ cut_closing machine }
 {
     let closed = machine.chip.close(Target::Nowhere, Data { bytes: [0; 32] });
-    let chip = match closed {
-        Ok((chip, _)) => chip,
-        Err(_) => machine.chip,
-    };
+    let chip = closed.map_or(machine.chip, |(chip, _)| chip);
     Machine { chip, ..machine }.switch()
 }

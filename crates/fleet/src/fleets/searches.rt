@@ -44,11 +44,10 @@ impl Outside {
     fn really_ran(&self, signature: Signature) -> Option<Register>
         ensures { result ≡ really_ran_of (vec_items self.now.shown) signature }
     {
-        let latest = self
-            .shown
+        self.shown
             .iter()
-            .find(|shown| signature == shown.signature)?;
-        Some(latest.ran)
+            .find(|shown| signature == shown.signature)
+            .map(|shown| shown.ran)
     }
 
     /// The same for a word, if it brings a signature.
