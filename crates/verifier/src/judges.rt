@@ -75,7 +75,7 @@ pub enum Word {
 }
 
 /// Of each digest of a row, the oldest first, whether it is on the office's list. An array with its length, as the
-/// row itself is: an answer is judged with no memory to be found.
+/// row itself is: an answer is judged without allocating, so that memory cannot run out then.
 #[derive(Clone, Copy)]
 pub struct Flags {
     pub known: [bool; 16],
@@ -98,7 +98,7 @@ pub enum Said {
 }
 
 /// Why a word changes nothing.
-#[derive(Clone, Copy)]
+#[derive(Clone, Copy, Debug, PartialEq, Eq)]
 pub enum Fault {
     Refused(Refusal),
     NoMemory,

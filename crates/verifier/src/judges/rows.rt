@@ -24,6 +24,7 @@ pub fn flag(good: &[Digest], row: Register) -> Flags
     ensures { result ≡ flags good.now row }
 {
     let mut known = [false; 16];
+    // By place: of what a loop writes through `known.iter_mut().zip(..)` the library says nothing.
     for (i, digest) in row.as_slice().iter().enumerate() {
         known[i] = has_digest(good, *digest);
     }
