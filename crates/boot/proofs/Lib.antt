@@ -1,5 +1,5 @@
 pub mod Lists
 pub mod Loads
-pub mod Places
+pub mod Names
 pub mod Starts
 pub mod Worlds

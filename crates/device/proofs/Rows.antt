@@ -1,15 +1,15 @@
 -- Registers are told apart by their rows.
-use Rattle.std.proofs.Common.{◌≡◌, ℕ, ◌+◌, ◌<◌, ◌≤◌, Bool, true, false, ◌&&◌, T, ltb, List, [], ◌∷◌, map, reverse, length, get_or, set, Some, None, Decides, sym, refl, ap, ◌∙◌, subst, arith, ltb→lt}
+use Rattle.std.proofs.Common.{◌≡◌, ℕ, ◌+◌, ◌<◌, ◌≤◌, Bool, true, false, T, ltb, List, [], ◌∷◌, map, reverse, length, get_or, set, Some, None, Decides, sym, refl, ap, ◌∙◌, subst, arith, ltb→lt}
 use mathlib.Core.HLevel.{is_prop→PathP}
 use mathlib.Core.List.{reverse-append}
 use native.Mathlib.Nat.{ℕ_set}
 use native.Mathlib.Bridge.{le_prop}
 use Rattle.std.specs.Str.{bytes_eq}
-use Rattle.std.proofs.lemmas.Slice.Eq.{bytes_eq-Decides}
+use Rattle.std.proofs.lemmas.Slice.Eq.{bytes_eq-Decides, slice_eq-Decides}
 use Rattle.std.proofs.lemmas.List.{take_more_set, reverse-reverse, length-take-le, length-reverse, length-map, get_or-take}
 use Rattle.std.proofs.lemmas.Option.{slice_get-get_or, slice_get_past}
 use Rattle.std.specs.List.{slice_get}
-use Rattle.std.proofs.lemmas.Bool.Decides.{Decides-and, nat_tests}
+use Rattle.std.proofs.lemmas.Bool.Decides.{nat_tests}
 use Rattle.device.specs.declared.digests.Digest.{Digest}
 use Rattle.device.specs.declared.registers.Register.{Register}
 use Rattle.device.specs.Rows.{row, words, pushed, pushed_at, same_digests}
@@ -21,16 +21,7 @@ pub digest_is : (d e : Digest) → Decides (bytes_eq d.bytes e.bytes) (d ≡ e)
 digest_is d e = let h = bytes_eq-Decides d.bytes e.bytes in ((λ t. λ i. record { bytes = h.0 t i }), λ p. h.1 (ap (λ x. x.bytes) p))
 
 pub same_digests_decides : (ds es : List Digest) → Decides (same_digests ds es) (ds ≡ es)
-unfolding same_digests
-same_digests_decides [] [] = ((λ _. refl), λ _. refl)
-same_digests_decides [] (e ∷ es) = ((λ t. absurd (grind arith)), λ p. absurd (grind arith))
-same_digests_decides (d ∷ ds) [] = ((λ t. absurd (grind arith)), λ p. absurd (grind arith))
-same_digests_decides (d ∷ ds) (e ∷ es) = by (same_digests_decides ds es)
-  where
-    by : Decides (same_digests ds es) (ds ≡ es) → Decides (bytes_eq d.bytes e.bytes && same_digests ds es) (◌≡◌ {A = List Digest} (d ∷ ds) (e ∷ es))
-    by h =
-        let both = Decides-and _ _ (digest_is d e) h in
-        ((λ t. λ i. (both.0 t).0 i ∷ (both.0 t).1 i), λ p. both.1 (cc, cc))
+same_digests_decides ds es = slice_eq-Decides digest_is ds es _ refl
 
 pub some_is : {A : Type 0} {x y : A} → Some x ≡ Some y → x ≡ y
 some_is e = cc

@@ -1,5 +1,5 @@
 -- Each command is the step that it says, of every world for which the chip stands.
-use Rattle.std.proofs.Common.{◌≡◌, ℕ, suc, ◌+◌, ◌^◌, Bool, true, false, cond, eqb, ltb, List, ◌∷◌, map, reverse, Some, None, Option, sym, refl, ap, ◌∙◌, subst, true≢false, add-one, arith}
+use Rattle.std.proofs.Common.{◌≡◌, ℕ, suc, ◌+◌, ◌^◌, Bool, true, false, cond, eqb, ltb, List, ◌∷◌, map, reverse, Some, None, Option, Ok, Err, sym, refl, ap, ◌∙◌, subst, true≢false, add-one, arith}
 use mathlib.Core.List.{Memᴰ}
 use Rattle.std.proofs.lemmas.Bool.Decides.{nat_tests}
 use Rattle.model.specs.Term as term
@@ -13,19 +13,19 @@ use Rattle.device.specs.declared.chips.Chip.{Chip}
 use Rattle.device.specs.declared.chips.Command.{Command}
 use Rattle.device.specs.declared.chips.Command.TheVariants.{Put, Sign, Count, Close, Open, Read, SwitchedOn}
 use Rattle.device.specs.declared.chips.Answer.{Answer}
-use Rattle.device.specs.declared.chips.Answer.TheVariants.{Counter, Closed, Opened}
+use Rattle.device.specs.declared.chips.Answer.TheVariants.{Signed}
 use Rattle.device.specs.declared.chips.Target.{Target}
 use Rattle.device.specs.declared.chips.Target.TheVariants.{Row, Nowhere}
 use Rattle.device.specs.declared.chips.Thing.{Thing}
 use Rattle.device.specs.declared.digests.Data.{Data}
 use Rattle.device.specs.declared.digests.Digest.{Digest}
 use Rattle.device.specs.declared.refusals.Refusal.{Refusal}
-use Rattle.device.specs.declared.refusals.Refusal.TheVariants.{Full, BadSeal, OtherRow, OtherCounter, UsedUp}
+use Rattle.device.specs.declared.refusals.Refusal.TheVariants.{BadSeal, OtherRow, OtherCounter, UsedUp}
 use Rattle.device.specs.declared.registers.Register.{Register}
-use Rattle.device.specs.Rows.{words, pushed}
+use Rattle.device.specs.Rows.{row, words, pushed}
 use Rattle.device.specs.Things.{is_row, sealed_by_of}
-use Rattle.device.specs.Commands.{refused, put_by, put_of, signed, counted, content, sealed, closed, opened, switched, answered}
-use Rattle.device.specs.Worlds.{Like, Stands, target_of, Holds, Switches, Puts, Signs, Counts, Closes, Opens, Steps, Refuses}
+use Rattle.device.specs.Commands.{put_by, put_of, signature_of, counted, content, sealed, closed, opened, switched, as_done, as_counter, as_closed, as_opened, answered}
+use Rattle.device.specs.Worlds.{Like, Stands, target_of, Holds, Switches, Puts, Signs, Counts, Closes, Opens, Reply, Steps}
 use Rattle.device.proofs.Rows.{words_more, same_digests_decides, same_words}
 
 -- a machine that was changed at one place: the chip stands for it there
@@ -35,71 +35,85 @@ stands c v a m e i l = record { is = i; like = subst (λ n. Like c n) (sym e) l 
 pub switches : (c : Chip) → Switches c (switched c)
 switches c = record { switches = λ pr w a s. (step.switches w a, stands _ _ a _ (at_same a _ w.machines) s.is (record { register_is = refl; counter_is = s.like.counter_is; number_is = s.like.number_is })) }
 
-puts_by : (c : Chip) (d : Digest) (o : Option Register) → pushed c.register d ≡ o → Puts c d (put_by c o)
+-- the chip and the answer where nothing was refused
+both : {p q : Chip × Answer} → ◌≡◌ {A = Reply} (Ok p) (Ok q) → p ≡ q
+both h = cc
+
+left : {p q : Chip × Answer} → ◌≡◌ {A = Reply} (Ok p) (Ok q) → p.0 ≡ q.0
+left h = ap (λ p. p.0) (both h)
+
+right : {p q : Chip × Answer} → ◌≡◌ {A = Reply} (Ok p) (Ok q) → p.1 ≡ q.1
+right h = ap (λ p. p.1) (both h)
+
+-- what stood for the chip stands for the one that was answered
+on_to : {p q : Chip × Answer} {v : World} {a : ℕ} → ◌≡◌ {A = Reply} (Ok p) (Ok q) → Stands p.0 v a → Stands q.0 v a
+on_to {v = v} {a = a} h = subst (λ m. Stands m v a) (left h)
+
+puts_by : (c : Chip) (d : Digest) (o : Option Register) → pushed c.register d ≡ o → Puts c d (as_done (put_by c o))
 puts_by c d (Some r) e =
     record {
-      boots = λ pr w a s _ none is. (step.boots w a none, stands _ _ a _ (at_same a _ w.machines) s.is (record { register_is = words_more _ _ d e ∙ (λ i. is i ∷ s.like.register_is i); counter_is = s.like.counter_is; number_is = s.like.number_is }));
-      loads = λ pr w a q qs s _ some. (step.loads w a d.bytes q qs some, stands _ _ a _ (at_same a _ w.machines) s.is (record { register_is = words_more _ _ d e ∙ ap (λ l. d.bytes ∷ l) s.like.register_is; counter_is = s.like.counter_is; number_is = s.like.number_is }));
-      puts_only = λ pr w a s _ t. (step.puts_only w a d.bytes t, stands _ _ a _ (at_same a _ w.machines) s.is (record { register_is = words_more _ _ d e ∙ ap (λ l. d.bytes ∷ l) s.like.register_is; counter_is = s.like.counter_is; number_is = s.like.number_is }));
+      boots = λ pr w a n s h none is. (step.boots w a none, on_to h (stands _ _ a _ (at_same a _ w.machines) s.is (record { register_is = words_more _ _ d e ∙ (λ i. is i ∷ s.like.register_is i); counter_is = s.like.counter_is; number_is = s.like.number_is })));
+      loads = λ pr w a n q qs s h some. (step.loads w a d.bytes q qs some, on_to h (stands _ _ a _ (at_same a _ w.machines) s.is (record { register_is = words_more _ _ d e ∙ ap (λ l. d.bytes ∷ l) s.like.register_is; counter_is = s.like.counter_is; number_is = s.like.number_is })));
+      puts_only = λ pr w a n s h t. (step.puts_only w a d.bytes t, on_to h (stands _ _ a _ (at_same a _ w.machines) s.is (record { register_is = words_more _ _ d e ∙ ap (λ l. d.bytes ∷ l) s.like.register_is; counter_is = s.like.counter_is; number_is = s.like.number_is })));
     }
-puts_by c d None e = record { boots = λ pr w a s h. absurd (grind arith); loads = λ pr w a q qs s h. absurd (grind arith); puts_only = λ pr w a s h. absurd (grind arith) }
+puts_by c d None e = record { boots = λ pr w a n s h. absurd (grind arith); loads = λ pr w a n q qs s h. absurd (grind arith); puts_only = λ pr w a n s h. absurd (grind arith) }
 
-puts : (c : Chip) (d : Digest) → Puts c d (put_of c d)
+puts : (c : Chip) (d : Digest) → Puts c d (as_done (put_of c d))
 puts c d = puts_by c d (pushed c.register d) refl
 
-signs : (c : Chip) (d : Data) → Signs c d (signed c d)
+signs : (c : Chip) (d : Data) → Signs c d (Ok (c, Signed (signature_of c d)))
 signs c d = record { signs = λ pr w a t s h. (step.signs w a t h, record { is = s.is; like = s.like }); answers = refl }
 
-counts_at : (c : Chip) (b : Bool) → Counts c (cond b (record { id = c.id; register = c.register; counter = c.counter + 1; number = c.number }, Counter (c.counter + 1)) (refused c UsedUp))
+counts_at : (c : Chip) (b : Bool) → Counts c (as_counter (cond b (Ok (record { id = c.id; register = c.register; counter = c.counter + 1; number = c.number })) (Err UsedUp)))
 counts_at c true =
-    record { counts = λ pr w a n s h. ((step.counts w a, stands _ _ a _ (at_same a _ w.machines) s.is (record { register_is = s.like.register_is; counter_is = add-one _ ∙ ap suc s.like.counter_is; number_is = s.like.number_is })), let told : c.counter + 1 ≡ n = cc in sym told ∙ add-one _ ∙ ap suc s.like.counter_is) }
-counts_at c false = record { counts = λ pr w a n s h. absurd (grind arith) }
+    record { counts = λ pr w a n k s h. ((step.counts w a, on_to h (stands _ _ a _ (at_same a _ w.machines) s.is (record { register_is = s.like.register_is; counter_is = add-one _ ∙ ap suc s.like.counter_is; number_is = s.like.number_is }))), let answer = right h in let told : c.counter + 1 ≡ k = cc in sym told ∙ add-one _ ∙ ap suc s.like.counter_is) }
+counts_at c false = record { counts = λ pr w a n k s h. absurd (grind arith) }
 
-counts : (c : Chip) → Counts c (counted c)
+counts : (c : Chip) → Counts c (as_counter (counted c))
 counts c = counts_at c (ltb c.counter (2 ^ 63))
 
-closes_at : (c : Chip) (t : Target) (d : Data) (b : Bool) → Closes c t d (cond b (record { id = c.id; register = c.register; counter = c.counter; number = c.number + 1 }, Closed (sealed c.id (content c t d))) (refused c UsedUp))
+closes_at : (c : Chip) (t : Target) (d : Data) (b : Bool) → Closes c t d (as_closed (cond b (Ok (record { id = c.id; register = c.register; counter = c.counter; number = c.number + 1 }, sealed c.id (content c t d))) (Err UsedUp)))
 closes_at c t d true =
     record {
-      closes = λ pr w a x s _. (step.closes w a (target_of t), stands _ _ a _ (at_same a _ w.machines) s.is (more (w.machines a) s.like));
-      closes_given = λ pr w a u x s _ h. (step.closes_given w a (target_of t) u h, stands _ _ a _ (at_same a _ w.machines) s.is (more (w.machines a) s.like));
-      passes_over = λ pr w a x s _. (step.passes_over w a, stands _ _ a _ (at_same a _ w.machines) s.is (more (w.machines a) s.like));
-      gives = λ w a u secret x s h. let is : sealed c.id (content c t d) ≡ x = cc in (sym is, subst (λ y. Holds y.content (effect.thing (target_of t) u secret (w.machines a))) is (record { number_is = s.like.number_is; target_is = refl; counter_is = s.like.counter_is }));
+      closes = λ pr w a n x s h. (step.closes w a (target_of t), on_to h (stands _ _ a _ (at_same a _ w.machines) s.is (more (w.machines a) s.like)));
+      closes_given = λ pr w a u n x s h f. (step.closes_given w a (target_of t) u f, on_to h (stands _ _ a _ (at_same a _ w.machines) s.is (more (w.machines a) s.like)));
+      passes_over = λ pr w a n x s h. (step.passes_over w a, on_to h (stands _ _ a _ (at_same a _ w.machines) s.is (more (w.machines a) s.like)));
+      gives = λ w a u secret n x s h. let answer = right h in let is : sealed c.id (content c t d) ≡ x = cc in (sym is, subst (λ y. Holds y.content (effect.thing (target_of t) u secret (w.machines a))) is (record { number_is = s.like.number_is; target_is = refl; counter_is = s.like.counter_is }));
     }
   where
     -- one number more, whatever was closed under it
     more : (m : world.Machine) {xs : List world.Thing} → Like c m → Like (record { id = c.id; register = c.register; counter = c.counter; number = c.number + 1 }) (effect.numbered_on xs m)
     more m l = record { register_is = l.register_is; counter_is = l.counter_is; number_is = add-one _ ∙ ap suc l.number_is }
-closes_at c t d false = record { closes = λ pr w a x s h. absurd (grind arith); closes_given = λ pr w a u x s h. absurd (grind arith); passes_over = λ pr w a x s h. absurd (grind arith); gives = λ w a u secret x s h. absurd (grind arith) }
+closes_at c t d false = record { closes = λ pr w a n x s h. absurd (grind arith); closes_given = λ pr w a u n x s h. absurd (grind arith); passes_over = λ pr w a n x s h. absurd (grind arith); gives = λ w a u secret n x s h. absurd (grind arith) }
 
-closes : (c : Chip) (t : Target) (d : Data) → Closes c t d (closed c t d)
+closes : (c : Chip) (t : Target) (d : Data) → Closes c t d (as_closed (closed c t d))
 closes c t d = closes_at c t d (ltb c.number (2 ^ 63))
 
 -- ---- opening
 
 -- the target is the register's row exactly if it means that row in the world
 row_fits : (t : Target) (r : Register) → is_row t r ≡ true → target_of t ≡ world.For (words r)
-row_fits (Row s) r e = ap (λ ds. world.For (map (λ d. d.bytes) (reverse ds))) (sym ((same_digests_decides _ _).0 e))
+row_fits (Row s) r e = ap (λ ds. world.For (map (λ d. d.bytes) (reverse ds))) (sym ((same_digests_decides (row r) (row s)).0 e))
 row_fits Nowhere r e = absurd (true≢false (sym e))
 
 fits_row : (t : Target) (r : Register) → target_of t ≡ world.For (words r) → is_row t r ≡ true
-fits_row (Row s) r e = (same_digests_decides _ _).1 (sym (same_words s r cc))
+fits_row (Row s) r e = (same_digests_decides (row r) (row s)).1 (sym (same_words s r cc))
 fits_row Nowhere r e = absurd (grind arith)
 
 -- nothing is opened, and one of the three does not fit
-shut : (c : Chip) (x : Thing) (k : Refusal) → ((w : World) (a : ℕ) (y : world.Thing) → Stands c w a → Holds x.content y → sealed_by_of c.id x ≡ true → y.target ≡ world.For (w.machines a).register → y.counter ≡ (w.machines a).counter → ⊥) → Opens c x (refused c k)
+shut : (c : Chip) (x : Thing) (k : Refusal) → ((w : World) (a : ℕ) (y : world.Thing) → Stands c w a → Holds x.content y → sealed_by_of c.id x ≡ true → y.target ≡ world.For (w.machines a).register → y.counter ≡ (w.machines a).counter → ⊥) → Opens c x (Err k)
 shut c x k unfit =
-    record { opens = λ pr w a y d s h. absurd (grind arith); opens_told = λ pr w a y d s h. absurd (grind arith); tells = λ d h. absurd (grind arith); opens_fitting = λ w a y s h e f g. absurd (unfit w a y s h e f g) }
+    record { opens = λ pr w a y n d s h. absurd (grind arith); opens_told = λ pr w a y n d s h. absurd (grind arith); tells = λ n d h. absurd (grind arith); opens_fitting = λ w a y s h e f g. absurd (unfit w a y s h e f g) }
 
-opens_at : (c : Chip) (x : Thing) (b₁ b₂ b₃ : Bool) → sealed_by_of c.id x ≡ b₁ → is_row x.content.target c.register ≡ b₂ → eqb x.content.counter c.counter ≡ b₃ → Opens c x (cond b₁ (cond b₂ (cond b₃ (c, Opened x.content.«data») (refused c OtherCounter)) (refused c OtherRow)) (refused c BadSeal))
+opens_at : (c : Chip) (x : Thing) (b₁ b₂ b₃ : Bool) → sealed_by_of c.id x ≡ b₁ → is_row x.content.target c.register ≡ b₂ → eqb x.content.counter c.counter ≡ b₃ → Opens c x (as_opened c (cond b₁ (cond b₂ (cond b₃ (Ok x.content.«data») (Err OtherCounter)) (Err OtherRow)) (Err BadSeal)))
 opens_at c x false b₂ b₃ e₁ e₂ e₃ = shut c x BadSeal (λ w a y s h e f g. true≢false (sym e ∙ e₁))
 opens_at c x true false b₃ e₁ e₂ e₃ = shut c x OtherRow (λ w a y s h e f g. true≢false (sym (fits_row _ _ (h.target_is ∙ f ∙ ap world.For (sym s.like.register_is))) ∙ e₂))
 opens_at c x true true false e₁ e₂ e₃ = shut c x OtherCounter (λ w a y s h e f g. let same : x.content.counter ≡ c.counter = h.counter_is ∙ g ∙ sym s.like.counter_is in absurd (grind (arith, nat_tests)))
 opens_at c x true true true e₁ e₂ e₃ =
     record {
-      opens = λ pr w a y d s _ h m at_hand clean. (step.opens w a y (fits w a y s h m at_hand) clean, record { is = s.is; like = s.like });
-      opens_told = λ pr w a y d s _ h m at_hand tainted. (step.opens_told w a y (fits w a y s h m at_hand) tainted, record { is = s.is; like = s.like });
-      tells = λ d h. let is : x.content.«data» ≡ d = cc in sym is;
+      opens = λ pr w a y n d s e h m at_hand clean. (step.opens w a y (fits w a y s h m at_hand) clean, on_to e (record { is = s.is; like = s.like }));
+      opens_told = λ pr w a y n d s e h m at_hand tainted. (step.opens_told w a y (fits w a y s h m at_hand) tainted, on_to e (record { is = s.is; like = s.like }));
+      tells = λ n d h. let answer = right h in let is : x.content.«data» ≡ d = cc in sym is;
       opens_fitting = λ w a y s h e f g. refl;
     }
   where
@@ -108,7 +122,7 @@ opens_at c x true true true e₁ e₂ e₃ =
         let same : x.content.counter ≡ c.counter = grind (arith, nat_tests) in
         record { given_out = m; at_hand = at_hand; target_fits = sym h.target_is ∙ row_fits _ _ e₂ ∙ ap world.For s.like.register_is; counter_fits = sym h.counter_is ∙ same ∙ s.like.counter_is }
 
-opens : (c : Chip) (x : Thing) → Opens c x (opened c x)
+opens : (c : Chip) (x : Thing) → Opens c x (as_opened c (opened c x))
 opens c x = opens_at c x _ _ _ refl refl refl
 
 -- ---- every command
@@ -119,32 +133,8 @@ stepped_at c (Sign d) = signs c d
 stepped_at c Count = counts c
 stepped_at c (Close t d) = closes c t d
 stepped_at c (Open x) = opens c x
-stepped_at c Read = refl
-stepped_at c SwitchedOn = refl
+stepped_at c Read = λ n x h. sym (left h)
+stepped_at c SwitchedOn = λ n x h. absurd (grind arith)
 
-pub stepped : (c : Chip) (k : Command) (r : Chip × Answer) → r ≡ answered c k → Steps c k r
+pub stepped : (c : Chip) (k : Command) (r : Reply) → r ≡ answered c k → Steps c k r
 stepped c k r e = subst (λ q. Steps c k q) (sym e) (stepped_at c k)
-
--- a refusal comes with the chip as it was
-refuses_cond : (c : Chip) (b : Bool) (p q : Chip × Answer) → Refuses c p → Refuses c q → Refuses c (cond b p q)
-refuses_cond c true p q f g = f
-refuses_cond c false p q f g = g
-
-refused_at : (c : Chip) (k : Refusal) → Refuses c (refused c k)
-refused_at c k = λ _ _. refl
-
-put_refuses : (c : Chip) (o : Option Register) → Refuses c (put_by c o)
-put_refuses c (Some r) = λ k h. absurd (grind arith)
-put_refuses c None = refused_at c Full
-
-refuses_at : (c : Chip) (k : Command) → Refuses c (answered c k)
-refuses_at c (Put d) = put_refuses c (pushed c.register d)
-refuses_at c (Sign d) = λ _ _. refl
-refuses_at c Count = refuses_cond c (ltb c.counter (2 ^ 63)) _ _ (λ k h. absurd (grind arith)) (refused_at c UsedUp)
-refuses_at c (Close t d) = refuses_cond c (ltb c.number (2 ^ 63)) _ _ (λ k h. absurd (grind arith)) (refused_at c UsedUp)
-refuses_at c (Open x) = refuses_cond c (sealed_by_of c.id x) _ _ (refuses_cond c (is_row x.content.target c.register) _ _ (refuses_cond c (eqb x.content.counter c.counter) _ _ (λ _ _. refl) (refused_at c OtherCounter)) (refused_at c OtherRow)) (refused_at c BadSeal)
-refuses_at c Read = λ _ _. refl
-refuses_at c SwitchedOn = λ _ _. refl
-
-pub refuses : (c : Chip) (k : Command) (r : Chip × Answer) → r ≡ answered c k → Refuses c r
-refuses c k r e = subst (λ q. Refuses c q) (sym e) (refuses_at c k)

@@ -1,6 +1,8 @@
 -- Rows of digests: what a register holds.
-use Rattle.std.specs.Prelude.{◌≡◌, ◌+◌, ◌<◌, ◌≤◌, Bool, true, false, ◌&&◌, T, List, [], ◌∷◌, map, reverse, length, take, replicate, Some, None, Option, nat_lt, slice_set, refl}
+use Rattle.std.specs.Prelude.{◌≡◌, ◌+◌, ◌<◌, ◌≤◌, Bool, true, false, T, List, map, reverse, length, take, replicate, Some, None, Option, nat_lt, slice_set, refl}
 use Rattle.std.proofs.Common.{sym, subst, ◌∙◌, arith, ltb→lt, lit≤, length-set}
+use Rattle.std.specs.Cmp.Lexicographic.{pointwise}
+use Rattle.std.specs.Ordering.{on}
 use Rattle.std.specs.Str.{bytes_eq}
 use Rattle.model.specs.Term as term
 use Rattle.device.specs.declared.digests.Digest.{Digest}
@@ -35,11 +37,8 @@ pushed r d = pushed_at r d (nat_lt r.len 16) refl
 
 -- ---- the same
 
-unfoldable pub same_digests : List Digest → List Digest → Bool
-same_digests [] [] = true
-same_digests [] (e ∷ es) = false
-same_digests (d ∷ ds) [] = false
-same_digests (d ∷ ds) (e ∷ es) = bytes_eq d.bytes e.bytes && same_digests ds es
+abbrev pub same_digests : List Digest → List Digest → Bool
+same_digests = pointwise (on (λ d. d.bytes) bytes_eq)
 
 abbrev pub same_row : Register → Register → Bool
-same_row r s = same_digests (row r) (row s)
+same_row = on row same_digests

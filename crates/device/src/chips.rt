@@ -4,7 +4,6 @@ pub mod steps;
 pub mod things;
 
 use crate::digests::{Data, Digest};
-use crate::refusals::Refusal;
 use crate::registers::Register;
 
 /// A chip: its row, its counter, and the number of the next thing that it closes.
@@ -16,7 +15,7 @@ pub struct Chip {
     number: u64,
 }
 
-#[derive(Clone, Copy)]
+#[derive(Clone, Copy, PartialEq)]
 pub enum Command {
     Put(Digest),
     Sign(Data),
@@ -28,7 +27,7 @@ pub enum Command {
     SwitchedOn,
 }
 
-#[derive(Clone, Copy)]
+#[derive(Clone, Copy, PartialEq)]
 pub enum Answer {
     Done,
     Signed(Signature),
@@ -36,18 +35,17 @@ pub enum Answer {
     Closed(Thing),
     Opened(Data),
     Now(u64, Register),
-    Refused(Refusal),
 }
 
 /// What a thing is closed for: a row of programs, or what is no row, for which no chip opens it.
-#[derive(Clone, Copy)]
+#[derive(Clone, Copy, PartialEq)]
 pub enum Target {
     Row(Register),
     Nowhere,
 }
 
 /// What was signed: the chip, the data that it was given, and its register of then.
-#[derive(Clone, Copy)]
+#[derive(Clone, Copy, PartialEq)]
 pub struct Signature {
     pub chip: u32,
     pub data: Data,
@@ -55,7 +53,7 @@ pub struct Signature {
 }
 
 /// What was closed: under which number, for which target and counter, and the data inside.
-#[derive(Clone, Copy)]
+#[derive(Clone, Copy, PartialEq)]
 pub struct Content {
     pub number: u64,
     pub target: Target,
@@ -64,14 +62,14 @@ pub struct Content {
 }
 
 /// What was sealed, and by which chip.
-#[derive(Clone, Copy)]
+#[derive(Clone, Copy, PartialEq)]
 pub struct Seal {
     pub chip: u32,
     pub content: Content,
 }
 
 /// What a chip gives out when it closes something: the content with a seal over it.
-#[derive(Clone, Copy)]
+#[derive(Clone, Copy, PartialEq)]
 pub struct Thing {
     pub content: Content,
     pub seal: Seal,

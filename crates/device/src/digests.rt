@@ -1,44 +1,13 @@
-//! Strings of thirty-two bytes, and whether two are the same.
-
-ghost use Rattle.std.specs.Prelude.{◌≡◌, Decides};
-ghost use Rattle.std.specs.Str.{bytes_eq};
-ghost use Rattle.std.specs.Cmp.Rules.{comparing};
-ghost use Rattle.std.proofs.Common.{rules};
+//! Strings of thirty-two bytes.
 
 /// The digest of a program.
-#[derive(Clone, Copy)]
+#[derive(Clone, Copy, PartialEq, Eq)]
 pub struct Digest {
     pub bytes: [u8; 32],
 }
 
-impl PartialEq for Digest {
-    ghost eq = { λ x y. bytes_eq x.bytes y.bytes };
-
-    ghost laws = { Prim.search (comparing, rules) };
-
-    fn eq(&self, other: &Digest) -> bool
-        ensures computes { result ≡ bytes_eq self.now.bytes other.now.bytes }
-        ensures decides { Decides result (self.now ≡ other.now) }
-    {
-        self.bytes == other.bytes
-    }
-}
-
 /// What a program gives the chip to be signed or closed.
-#[derive(Clone, Copy)]
+#[derive(Clone, Copy, PartialEq, Eq)]
 pub struct Data {
     pub bytes: [u8; 32],
-}
-
-impl PartialEq for Data {
-    ghost eq = { λ x y. bytes_eq x.bytes y.bytes };
-
-    ghost laws = { Prim.search (comparing, rules) };
-
-    fn eq(&self, other: &Data) -> bool
-        ensures computes { result ≡ bytes_eq self.now.bytes other.now.bytes }
-        ensures decides { Decides result (self.now ≡ other.now) }
-    {
-        self.bytes == other.bytes
-    }
 }

@@ -3,7 +3,7 @@
 ghost use Rattle.std.specs.Prelude.{◌≡◌};
 ghost use Rattle.device.specs.Refusals.{number_of};
 
-#[derive(Clone, Copy)]
+#[derive(Clone, Copy, Debug, PartialEq, Eq)]
 pub enum Refusal {
     /// The register holds sixteen digests. A register by value has this limit, and no other has.
     Full,
@@ -32,12 +32,12 @@ pub enum Refusal {
     NoDraws,
 }
 
-impl Refusal {
-    /// The number by which a refusal is told; 0 where the limit is only that of a chip by value.
-    pub fn number(self) -> u8
-        ensures { result ≡ number_of self }
-    {
-        match self {
+/// The number by which a refusal is told; 0 where the limit is only that of a chip by value.
+impl From<Refusal> for u8 {
+    ghost from_gives = { λ why n. n ≡ number_of why };
+
+    fn from(why: Refusal) -> u8 {
+        match why {
             Refusal::Full => 0,
             Refusal::Malformed => 1,
             Refusal::BadSeal => 2,

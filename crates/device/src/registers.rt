@@ -6,7 +6,7 @@ pub mod rows;
 
 use crate::digests::Digest;
 
-/// A row of at most sixteen digests, the oldest first.
+/// A row of at most sixteen digests, the oldest first. An array with its length, since a chip has fixed memory and no heap.
 #[derive(Clone, Copy)]
 pub struct Register {
     digests: [Digest; 16],

@@ -1,5 +1,5 @@
 -- Each event at a machine is matched by steps of the world.
-use Rattle.std.proofs.Common.{◌≡◌, ℕ, ◌+◌, ◌<◌, Bool, true, false, cond, not, ◌&&◌, eqb, ltb, List, [], ◌∷◌, ◌++◌, map, reverse, length, Some, None, Option, sym, refl, ap, ◌∙◌, subst, arith}
+use Rattle.std.proofs.Common.{◌≡◌, ℕ, ◌+◌, ◌<◌, Bool, true, false, cond, not, ◌&&◌, eqb, ltb, List, [], ◌∷◌, ◌++◌, map, reverse, length, Some, None, Option, Ok, Err, Result, sym, refl, ap, ◌∙◌, subst, arith}
 use mathlib.Core.Bool.{and_assoc, and-true}
 use mathlib.Core.List.{reverse-cons}
 use Rattle.std.proofs.lemmas.List.{map-append}
@@ -13,8 +13,6 @@ use Rattle.model.specs.Step as step
 use Rattle.model.specs.Run.{here, onward}
 use Rattle.model.proofs.Places.{at_same, at_other}
 use Rattle.model.proofs.Knowledge.{Safe}
-use Rattle.device.specs.declared.chips.Answer.{Answer}
-use Rattle.device.specs.declared.chips.Answer.TheVariants as answer
 use Rattle.device.specs.declared.chips.Chip.{Chip}
 use Rattle.device.specs.declared.chips.Command.TheVariants as command
 use Rattle.device.specs.declared.chips.Target.{Target}
@@ -40,7 +38,8 @@ use Rattle.boot.proofs.Worlds as boots
 use Rattle.verifier.specs.Searches.{some, is_digest}
 use Rattle.fleet.specs.declared.fleets.Act.{Act}
 use Rattle.fleet.specs.declared.fleets.Act.TheVariants.{Switch, Start, Load, Give, Keep, Run as RunBad, CutCount, CutClose}
-use Rattle.fleet.specs.Sights.{Sight, tainted, any_bad_of, with_machine, with_chip, with_disk, showing, opening_told, running, machine_at, acted}
+use Rattle.fleet.specs.Sights.{Sight, tainted, any_bad_of, with_machine, with_chip, with_disk, showing, or_before, chip_after, opening_told, running, machine_at, acted}
+use Rattle.fleet.specs.declared.fleets.Fault.{Fault}
 use Rattle.fleet.specs.declared.fleets.Report.{Report}
 use Rattle.fleet.specs.declared.fleets.Shown.{Shown}
 use Rattle.boot.specs.declared.disks.Entry.{Entry}
@@ -120,12 +119,12 @@ module _ (o : Setting) (s : Sight) (i : ℕ) (w : World) (below : i < length s.m
       let (t, h) = (steps.switches x.chip).switches o.programs w i st.chip_stands in
       record { steps = 1; run = onward here t; stands = quiet (machine.switched x) effect.switched h refl }
 
-  abbrev counts : Bool → Chip × Answer
-  counts b = cond b (record { id = x.chip.id; register = x.chip.register; counter = x.chip.counter + 1; number = x.chip.number }, answer.Counter (x.chip.counter + 1)) (chip.refused x.chip refusal.UsedUp)
+  abbrev counts : Bool → Result Chip Refusal
+  counts b = cond b (Ok (record { id = x.chip.id; register = x.chip.register; counter = x.chip.counter + 1; number = x.chip.number })) (Err refusal.UsedUp)
 
-  count_goes : (b : Bool) → may_count x ≡ b → Goes o (with_machine i (with_chip x (chip.counted x.chip).0) s) w (cond b (on_machine i effect.counted w) w)
-  count_goes true e = one_step (chip.counted x.chip).0 effect.counted ((steps.stepped x.chip command.Count _ refl).counts o.programs w i _ st.chip_stands (ap (λ b. (counts b).1) e)).0 refl
-  count_goes false e = subst (λ q. Goes o (with_machine i (with_chip x q.0) s) w w) (sym (ap counts e)) same
+  count_goes : (b : Bool) → may_count x ≡ b → Goes o (with_machine i (with_chip x (chip_after x.chip (chip.as_counter (counts b)))) s) w (cond b (on_machine i effect.counted w) w)
+  count_goes true e = one_step _ effect.counted ((steps.stepped x.chip command.Count _ refl).counts o.programs w i _ _ st.chip_stands (ap (λ b. chip.as_counter (counts b)) e)).0 refl
+  count_goes false e = same
 
   -- ---- something is said that is no news
 
@@ -146,20 +145,20 @@ module _ (o : Setting) (s : Sight) (i : ℕ) (w : World) (below : i < length s.m
 
   -- ---- closing
 
-  abbrev closes : (t : Target) (d : Data) → Bool → Chip × Answer
-  closes t d b = cond b (record { id = x.chip.id; register = x.chip.register; counter = x.chip.counter; number = x.chip.number + 1 }, answer.Closed (chip.sealed x.chip.id (chip.content x.chip t d))) (chip.refused x.chip refusal.UsedUp)
+  abbrev closes : (t : Target) (d : Data) → Bool → Result (Chip × Thing) Refusal
+  closes t d b = cond b (Ok (record { id = x.chip.id; register = x.chip.register; counter = x.chip.counter; number = x.chip.number + 1 }, chip.sealed x.chip.id (chip.content x.chip t d))) (Err refusal.UsedUp)
 
-  close_given_goes : (t : Target) (d : Data) (b : Bool) → may_close x ≡ b → (b ≡ true → Derives w.heard (term_of o d)) → Goes o (with_machine i (with_chip x (chip.closed x.chip t d).0) s) w (cond b (effect.giving_out i (effect.thing (target_of t) (term_of o d) false (w.machines i)) w) w)
+  close_given_goes : (t : Target) (d : Data) (b : Bool) → may_close x ≡ b → (b ≡ true → Derives w.heard (term_of o d)) → Goes o (with_machine i (with_chip x (chip_after x.chip (chip.as_closed (closes t d b)))) s) w (cond b (effect.giving_out i (effect.thing (target_of t) (term_of o d) false (w.machines i)) w) w)
   close_given_goes t d true e h =
-      let (z, c) = (steps.stepped x.chip (command.Close t d) _ refl).closes_given o.programs w i (term_of o d) _ st.chip_stands (ap (λ b. (closes t d b).1) e) (h refl) in
+      let (z, c) = (steps.stepped x.chip (command.Close t d) _ refl).closes_given o.programs w i (term_of o d) _ _ st.chip_stands (ap (λ b. chip.as_closed (closes t d b)) e) (h refl) in
       record { steps = 1; run = onward here z; stands = saying _ _ _ (record { chip_stands = c; ran_is = st.ran_is ∙ sym (ap (λ m. m.ran) (at_same i _ w.machines)) }) (λ j other. at_other i _ w.machines j other) refl refl tt }
-  close_given_goes t d false e h = subst (λ q. Goes o (with_machine i (with_chip x q.0) s) w w) (sym (ap (closes t d) e)) same
+  close_given_goes t d false e h = same
 
-  keep_goes : (t : Target) (d : Data) (b : Bool) → may_close x ≡ b → Goes o (with_machine i (with_chip x (chip.closed x.chip t d).0) s) w (cond b (effect.having_drawn (effect.giving_out i (effect.thing (target_of t) (honest w.next) true (w.machines i)) w)) w)
+  keep_goes : (t : Target) (d : Data) (b : Bool) → may_close x ≡ b → Goes o (with_machine i (with_chip x (chip_after x.chip (chip.as_closed (closes t d b)))) s) w (cond b (effect.having_drawn (effect.giving_out i (effect.thing (target_of t) (honest w.next) true (w.machines i)) w)) w)
   keep_goes t d true e =
-      let (z, c) = (steps.stepped x.chip (command.Close t d) _ refl).closes o.programs w i _ st.chip_stands (ap (λ b. (closes t d b).1) e) in
+      let (z, c) = (steps.stepped x.chip (command.Close t d) _ refl).closes o.programs w i _ _ st.chip_stands (ap (λ b. chip.as_closed (closes t d b)) e) in
       record { steps = 1; run = onward here z; stands = saying _ _ _ (record { chip_stands = c; ran_is = st.ran_is ∙ sym (ap (λ m. m.ran) (at_same i _ w.machines)) }) (λ j other. at_other i _ w.machines j other) refl refl tt }
-  keep_goes t d false e = subst (λ q. Goes o (with_machine i (with_chip x q.0) s) w w) (sym (ap (closes t d) e)) same
+  keep_goes t d false e = same
 
   -- ---- power is lost
 
@@ -169,14 +168,14 @@ module _ (o : Setting) (s : Sight) (i : ℕ) (w : World) (below : i < length s.m
       let (u, k) = (steps.switches c).switches o.programs (on_machine i g w) i h in
       record { steps = 2; run = onward (onward here t) u; stands = moved o s i _ w _ s.heard below f (record { chip_stands = k; ran_is = sym (ap (λ m. m.ran) (at_same i _ (on_machine i g w).machines)) }) (λ j other. at_other i _ (on_machine i g w).machines j other ∙ at_other i _ w.machines j other) refl (told f) }
 
-  cut_close_goes : (t : Target) (d : Data) (b : Bool) → may_close x ≡ b → Goes o (with_machine i (machine.switched (with_chip x (chip.closed x.chip t d).0)) s) w (on_machine i effect.switched (cond b (on_machine i effect.passed_over w) w))
-  cut_close_goes t d true e = cut _ effect.passed_over ((steps.stepped x.chip (command.Close t d) _ refl).passes_over o.programs w i _ st.chip_stands (ap (λ b. (closes t d b).1) e))
-  cut_close_goes t d false e = subst (λ q. Goes o (with_machine i (machine.switched (with_chip x q.0)) s) w (on_machine i effect.switched w)) (sym (ap (closes t d) e)) switch_goes
+  cut_close_goes : (t : Target) (d : Data) (b : Bool) → may_close x ≡ b → Goes o (with_machine i (machine.switched (with_chip x (chip_after x.chip (closes t d b)))) s) w (on_machine i effect.switched (cond b (on_machine i effect.passed_over w) w))
+  cut_close_goes t d true e = cut _ effect.passed_over ((steps.stepped x.chip (command.Close t d) _ refl).passes_over o.programs w i _ _ st.chip_stands (ap (λ b. chip.as_closed (closes t d b)) e))
+  cut_close_goes t d false e = switch_goes
 
-  cut_count_goes : (r b : Bool) → may_count x ≡ b → Goes o (with_machine i (machine.switched (with_chip x (cond r (chip.counted x.chip).0 x.chip))) s) w (on_machine i effect.switched (cond (r && b) (on_machine i effect.counted w) w))
+  cut_count_goes : (r b : Bool) → may_count x ≡ b → Goes o (with_machine i (machine.switched (with_chip x (cond r (or_before x.chip (counts b)) x.chip))) s) w (on_machine i effect.switched (cond (r && b) (on_machine i effect.counted w) w))
   cut_count_goes false b e = switch_goes
-  cut_count_goes true true e = cut _ effect.counted ((steps.stepped x.chip command.Count _ refl).counts o.programs w i _ st.chip_stands (ap (λ b. (counts b).1) e)).0
-  cut_count_goes true false e = subst (λ q. Goes o (with_machine i (machine.switched (with_chip x q.0)) s) w (on_machine i effect.switched w)) (sym (ap counts e)) switch_goes
+  cut_count_goes true true e = cut _ effect.counted ((steps.stepped x.chip command.Count _ refl).counts o.programs w i _ _ st.chip_stands (ap (λ b. chip.as_counter (counts b)) e)).0
+  cut_count_goes true false e = switch_goes
 
   -- ---- bad programs
 
@@ -188,12 +187,12 @@ module _ (o : Setting) (s : Sight) (i : ℕ) (w : World) (below : i < length s.m
   taint : (b : Bool) → tainted s x ≡ b → all_good o.programs.good (w.machines i).ran ≡ not b
   taint b e = ap (all_good o.programs.good) (sym st.ran_is) ∙ good_not_bad o.programs.good s.bad f.good_is (row x.ran) ∙ ap not e
 
-  put_goes : (d : Digest) (b : Bool) → tainted s x ≡ b → (p : Option Register) → pushed x.chip.register d ≡ p → Goes o (cond b (with_machine i (with_chip x (chip.put_of x.chip d).0) s) s) w (cond (b && room x.chip.register) (on_machine i (effect.put_unloaded d.bytes) w) w)
+  put_goes : (d : Digest) (b : Bool) → tainted s x ≡ b → (p : Option Register) → pushed x.chip.register d ≡ p → Goes o (cond b (with_machine i (with_chip x (chip_after x.chip (chip.as_done (chip.put_by x.chip p)))) s) s) w (cond (b && room x.chip.register) (on_machine i (effect.put_unloaded d.bytes) w) w)
   put_goes d false e p is = still
   put_goes d true e (Some r) is =
-      subst (λ k. Goes o (with_machine i (with_chip x (chip.put_of x.chip d).0) s) w (cond k (on_machine i (effect.put_unloaded d.bytes) w) w)) (sym (room_some x.chip.register d r is)) (one_step _ (effect.put_unloaded d.bytes) ((steps.stepped x.chip (command.Put d) _ refl).puts_only o.programs w i st.chip_stands (ap (λ k. (chip.put_by x.chip k).1) is) (taint true e)) refl)
+      subst (λ k. Goes o (with_machine i (with_chip x (chip.with_register r x.chip)) s) w (cond k (on_machine i (effect.put_unloaded d.bytes) w) w)) (sym (room_some x.chip.register d r is)) (one_step _ (effect.put_unloaded d.bytes) ((steps.stepped x.chip (command.Put d) _ refl).puts_only o.programs w i _ st.chip_stands (ap (λ k. chip.as_done (chip.put_by x.chip k)) is) (taint true e)) refl)
   put_goes d true e None is =
-      subst (λ k. Goes o (with_machine i (with_chip x (chip.put_of x.chip d).0) s) w (cond k (on_machine i (effect.put_unloaded d.bytes) w) w)) (sym (room_none x.chip.register d is)) (subst (λ q. Goes o (with_machine i (with_chip x q.0) s) w w) (sym (ap (chip.put_by x.chip) is)) same)
+      subst (λ k. Goes o (with_machine i x s) w (cond k (on_machine i (effect.put_unloaded d.bytes) w) w)) (sym (room_none x.chip.register d is)) same
 
   run_goes : (d : Digest) (b : Bool) → tainted s x ≡ b → (p : Option Register) → pushed x.ran d ≡ p → Goes o (cond b (running i s x p).0 s) w (cond (b && room x.ran) (on_machine i (effect.loaded_unput d.bytes) w) w)
   run_goes d false e p is = still
@@ -221,16 +220,16 @@ module _ (o : Setting) (s : Sight) (i : ℕ) (w : World) (below : i < length s.m
       let b = boots.starts x s.first s.disk _ n _ refl o.programs w i st (sym f.first_is) in
       record { steps = _; run = b.run; stands = moved o s i _ w _ s.heard below f b.stands (after_else ds) (after_judges ds) (subst (λ l. Told o s.heard l) (sym (after_heard ds)) (told f)) }
 
-  load_goes : (n : Name) (r : Machine × Option Refusal) → r ≡ (ask_of x s.disk n).1 → Goes o (with_machine i r.0 s) w (after_load i r w)
-  load_goes n (y, None) is =
-      let (t, h) = (boots.asks x s.disk _ n _ (λ k. ((ask_of x s.disk n).0, is k))).loads o.programs w i st refl in
+  load_goes : (n : Name) (r : Result Machine Refusal) → r ≡ (ask_of x s.disk n).1 → Goes o (with_machine i (or_before x r) s) w (after_load i r w)
+  load_goes n (Ok y) is =
+      let (t, h) = (boots.asks x s.disk _ n _ (λ k. ((ask_of x s.disk n).0, is k))).loads o.programs w i y st refl in
       record { steps = 1; run = onward here t; stands = moved o s i y w _ s.heard below f h (λ j other. at_other i _ w.machines j other) refl (told f) }
-  load_goes n (y, Some k) is = subst (λ m. Goes o (with_machine i m s) w w) (sym (boots.refuses x s.disk _ n _ (λ k. ((ask_of x s.disk n).0, is k)) k refl)) same
+  load_goes n (Err k) is = same
 
   -- ---- opening
 
-  abbrev opens : Thing → (b₁ b₂ b₃ : Bool) → Chip × Answer
-  opens y b₁ b₂ b₃ = cond b₁ (cond b₂ (cond b₃ (x.chip, answer.Opened y.content.«data») (chip.refused x.chip refusal.OtherCounter)) (chip.refused x.chip refusal.OtherRow)) (chip.refused x.chip refusal.BadSeal)
+  abbrev opens : Thing → (b₁ b₂ b₃ : Bool) → Result Data Refusal
+  opens y b₁ b₂ b₃ = cond b₁ (cond b₂ (cond b₃ (Ok y.content.«data») (Err refusal.OtherCounter)) (Err refusal.OtherRow)) (Err refusal.BadSeal)
 
   open_goes : (y : Thing) (b b₁ b₂ b₃ : Bool) → tainted s x ≡ b → chip.opened x.chip y ≡ opens y b₁ b₂ b₃ → (h : cond b₁ (cond b₂ b₃ false) false ≡ true → Brought o i y w) → Goes o (opening_told b i s x (opens y b₁ b₂ b₃)).0 w (opened_by o b i x y w (cond b₁ (cond b₂ b₃ false) false) h)
   open_goes y b false b₂ b₃ e is h = same
@@ -238,11 +237,11 @@ module _ (o : Setting) (s : Sight) (i : ℕ) (w : World) (below : i < length s.m
   open_goes y b true true false e is h = same
   open_goes y false true true true e is h =
       let z : Brought o i y w = h refl in
-      let (t, c) = (steps.stepped x.chip (command.Open y) _ refl).opens o.programs w i z.thing _ st.chip_stands (ap (λ q. q.1) is) z.holds z.given_out z.at_hand (taint false e) in
+      let (t, c) = (steps.stepped x.chip (command.Open y) _ refl).opens o.programs w i z.thing _ _ st.chip_stands (ap (chip.as_opened x.chip) is) z.holds z.given_out z.at_hand (taint false e) in
       record { steps = 1; run = onward here t; stands = moved o s i x w _ s.heard below f (record { chip_stands = record { is = st.chip_stands.is; like = st.chip_stands.like }; ran_is = st.ran_is }) (λ j _. refl) refl (told f) }
   open_goes y true true true true e is h =
       let z : Brought o i y w = h refl in
-      let (t, c) = (steps.stepped x.chip (command.Open y) _ refl).opens_told o.programs w i z.thing _ st.chip_stands (ap (λ q. q.1) is) z.holds z.given_out z.at_hand (taint true e) in
+      let (t, c) = (steps.stepped x.chip (command.Open y) _ refl).opens_told o.programs w i z.thing _ _ st.chip_stands (ap (chip.as_opened x.chip) is) z.holds z.given_out z.at_hand (taint true e) in
       record { steps = 1; run = onward here t; stands = moved o s i x w _ (y.content.«data» ∷ s.heard) below f (record { chip_stands = record { is = st.chip_stands.is; like = st.chip_stands.like }; ran_is = st.ran_is }) (λ j _. refl) refl (subst (λ u. Told o (y.content.«data» ∷ s.heard) (u ∷ w.heard)) (sym z.inside) (told_heard o s.heard w.heard y.content.«data» (told f))) }
 
   -- ---- every event
@@ -253,7 +252,7 @@ module _ (o : Setting) (s : Sight) (i : ℕ) (w : World) (below : i < length s.m
   disk_goes : {t : Sight} {v : World} (es : List Entry) → Goes o t w v → Goes o (with_disk es t) w v
   disk_goes es g = record { steps = g.steps; run = g.run; stands = on_disk es g.stands }
 
-  cond_sight : (b : Bool) (p q : Sight × Report) (v : World) → Goes o (cond b p.0 q.0) w v → Goes o (cond b p q).0 w v
+  cond_sight : (b : Bool) (p q : Sight × Result Report Fault) (v : World) → Goes o (cond b p.0 q.0) w v → Goes o (cond b p q).0 w v
   cond_sight true p q v g = g
   cond_sight false p q v g = g
 

@@ -1,5 +1,5 @@
 -- A run that meets all that is asked of its events.
-use Rattle.std.proofs.Common.{◌≡◌, ℕ, zero, suc, ◌<◌, Bool, true, false, cond, not, List, [], ◌∷◌, get_or, Some, None, Option, sym, refl, ◌∙◌, subst, arith}
+use Rattle.std.proofs.Common.{◌≡◌, ℕ, zero, suc, ◌<◌, Bool, true, false, cond, not, List, [], ◌∷◌, get_or, Some, None, Option, Ok, Result, sym, refl, ◌∙◌, subst, arith}
 use mathlib.Core.List.Memᴰ
 use Rattle.std.specs.Str.{bytes_eq}
 use Rattle.std.proofs.lemmas.Slice.Eq.{bytes_eq-Decides}
@@ -7,12 +7,12 @@ use Rattle.model.specs.Term.{has}
 use Rattle.model.specs.World.{Programs}
 use Rattle.model.specs.Effect.{made}
 use Rattle.device.specs.declared.digests.Data.{Data}
-use Rattle.device.specs.Rows.{same_digests}
 use Rattle.device.specs.Things.{same_data}
-use Rattle.boot.specs.Disks.{same_name, programs_of}
-use Rattle.boot.specs.Disks as disks
+use Rattle.boot.specs.Disks.{programs_of}
 use Rattle.boot.specs.Machines.{load_all_of, new_machine}
 use Rattle.boot.specs.Starts.{follow}
+use Rattle.verifier.specs.declared.judges.Fault.{Fault}
+use Rattle.verifier.specs.declared.judges.Said.{Said}
 use Rattle.verifier.specs.declared.judges.Said.TheVariants as said
 use Rattle.verifier.specs.Searches as searches
 use Rattle.verifier.specs.Searches.{some, is_digest}
@@ -56,16 +56,16 @@ agrees : Agrees setting new_village
 unfolding programs
 agrees = (refl, λ d. refl)
 
-asked_with : {a c : ℕ} {d e : Data} → said.Asks a d ≡ said.Asks c e → d ≡ e
+asked_with : {a c : ℕ} {d e : Data} → ◌≡◌ {A = Result Said Fault} (Ok (said.Asks a d)) (Ok (said.Asks c e)) → d ≡ e
 asked_with is = cc
 
 ran : Ran new_village (log_of new_village case_a) (end_of new_village case_a)
-unfolding same_digests same_data same_name disks.place programs_of load_all_of follow searches.some searches.seek searches.place searches.is_digest filled any_bad_of
+unfolding same_data programs_of load_all_of follow searches.some searches.seek searches.place searches.is_digest filled any_bad_of
 ran = (refl, (refl, (refl, (refl, (refl, (refl, (refl, (refl, (refl, (refl, (refl, (refl, refl))))))))))))
 
 ready : Ready setting new_village (log_of new_village case_a) made
-unfolding same_digests same_data same_name disks.place programs_of load_all_of follow searches.some searches.seek searches.place searches.is_digest filled any_bad_of
-ready = (tt, (tt, (tt, (tt, (tt, ((λ _ _. tt), ((λ _ _. tt), ((λ _ _. tt), ((λ _. tt), ((λ _ _ c q is. subst (λ z. names z.bytes ≡ Some 0) (asked_with is) refl), ((λ _ _. has (Memᴰ.head refl)), ((λ _ n r f is. has (Memᴰ.head refl)), tt))))))))))))
+unfolding same_data programs_of load_all_of follow searches.some searches.seek searches.place searches.is_digest filled any_bad_of
+ready = (tt, (tt, (tt, (tt, (tt, ((λ _ _. tt), ((λ _ _. tt), ((λ _ _. tt), ((λ _. tt), ((λ _ _ c q is. subst (λ z. names z.bytes ≡ Some 0) (asked_with is) refl), ((λ _ _. has (Memᴰ.head refl)), ((λ _ z is. has (Memᴰ.head refl)), tt))))))))))))
 
 pub covered : Covered
 covered = (begun, ran, (setting, agrees, ready))

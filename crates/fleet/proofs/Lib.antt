@@ -1,11 +1,10 @@
 pub mod Acts
+pub mod Alone
 pub mod Cases
 pub mod Covered
-pub mod Eaches
 pub mod News
 pub mod Plays
-pub mod Seating
+pub mod Searches
 pub mod Standing
 pub mod Stories
-pub mod Taints
 pub mod Words

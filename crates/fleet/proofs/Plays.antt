@@ -1,5 +1,5 @@
 -- Every event, and every run of events.
-use Rattle.std.proofs.Common.{◌≡◌, ℕ, ◌+◌, ◌<◌, Bool, true, false, cond, T, ltb, List, [], ◌∷◌, length, Option, sym, refl, ap, ◌∙◌, subst, true≢false, arith, ltb→lt}
+use Rattle.std.proofs.Common.{◌≡◌, ℕ, ◌+◌, ◌<◌, Bool, true, false, cond, T, ltb, List, [], ◌∷◌, length, Option, Ok, Err, Result, sym, refl, ap, ◌∙◌, subst, true≢false, arith, ltb→lt}
 use mathlib.Core.List.Memᴰ
 use Rattle.model.specs.World.{World}
 use Rattle.model.specs.Effect as effect
@@ -10,6 +10,7 @@ use Rattle.model.proofs.Moments.{join}
 use Rattle.device.specs.declared.digests.Digest.{Digest}
 use Rattle.device.specs.declared.registers.Register.{Register}
 use Rattle.verifier.specs.declared.judges.Reply.{Reply}
+use Rattle.verifier.specs.declared.judges.Fault.{Fault as JudgeFault}
 use Rattle.verifier.specs.declared.judges.Said.{Said}
 use Rattle.verifier.specs.declared.judges.Word.{Word}
 use Rattle.verifier.specs.declared.judges.Word.TheVariants as word
@@ -22,8 +23,10 @@ use Rattle.model.proofs.Knowledge.{derives_safe}
 use Rattle.fleet.specs.declared.fleets.Event.{Event}
 use Rattle.fleet.specs.declared.fleets.Event.TheVariants.{At, Office, Net, Fall, Write, Wipe}
 use Rattle.fleet.specs.Sights.{Sight, found, machine_at, seat_at, with_seat, acted, judged, played}
+use Rattle.fleet.specs.declared.fleets.Fault.{Fault}
+use Rattle.fleet.specs.declared.fleets.Fault.TheVariants.{Nobody, NoMemory}
 use Rattle.fleet.specs.declared.fleets.Report.{Report}
-use Rattle.fleet.specs.declared.fleets.Report.TheVariants.{Done, Nobody, NoMemory}
+use Rattle.fleet.specs.declared.fleets.Report.TheVariants.{Done}
 use Rattle.fleet.specs.Worlds.{Setting, drawn, FleetStands, ActAllowed, WordAllowed, after_word, after_net, Goes}
 use Rattle.verifier.specs.Seats.{Seat, new_seat, answer_of, office_of, net_of}
 use Rattle.fleet.specs.Runs.{Allowed, after_at, after, Plays, Happening, next, Ran, Ready, final, OfAccepted, OfWord, OfEvent, Claim, Claims, Agrees, PlaySteps, Tells, FleetPromise}
@@ -41,23 +44,23 @@ still o s w f = record { steps = 0; run = here; stands = f }
 pub plays : Plays
 plays o m s (At i a) ds w h f = by (ltb i (length s.machines)) refl h
   where
-    by : (b : Bool) → ltb i (length s.machines) ≡ b → (h : b ≡ true → ActAllowed o m i (machine_at s i) a w) → Goes o (cond b (acted m i s (machine_at s i) a) (s, Nobody)).0 w (after_at o m i s a w b h)
+    by : (b : Bool) → ltb i (length s.machines) ≡ b → (h : b ≡ true → ActAllowed o m i (machine_at s i) a w) → Goes o (cond b (acted m i s (machine_at s i) a) (s, Err Nobody)).0 w (after_at o m i s a w b h)
     by true e g = machine_events o m s i a w (g refl) (in_range i _ e) f
     by false e g = still o s w f
 plays o m s (Office j x q) ds w h f = by (ltb j (length s.seats)) refl m h
   where
-    by : (b : Bool) → ltb j (length s.seats) ≡ b → (m : Bool) → (b ≡ true → m ≡ true → WordAllowed o x (office_of true (seat_at s j) x ds q).1 w) → Goes o (cond b (cond m (judged j s x (office_of true (seat_at s j) x ds q)) (s, NoMemory)) (s, Nobody)).0 w (cond b (cond m (after_word o j (seat_at s j) x ds (office_of true (seat_at s j) x ds q) w) w) w)
+    by : (b : Bool) → ltb j (length s.seats) ≡ b → (m : Bool) → (b ≡ true → m ≡ true → WordAllowed o x (office_of true (seat_at s j) x ds q).1 w) → Goes o (cond b (cond m (judged j s x (office_of true (seat_at s j) x ds q)) (s, Err NoMemory)) (s, Err Nobody)).0 w (cond b (cond m (after_word o j (seat_at s j) x ds (office_of true (seat_at s j) x ds q) w) w) w)
     by true e true g = office_words o s j x ds q w (in_range j _ e) f (g refl refl)
     by true e false g = still o s w f
     by false e n g = still o s w f
 plays o m s (Net j x) ds w h f = by (ltb j (length s.seats)) refl h
   where
-    by : (b : Bool) → ltb j (length s.seats) ≡ b → (b ≡ true → WordAllowed o x (net_of (seat_at s j) x).1 w) → Goes o (cond b (judged j s x (net_of (seat_at s j) x)) (s, Nobody)).0 w (cond b (after_net o j (seat_at s j) x (net_of (seat_at s j) x) w) w)
+    by : (b : Bool) → ltb j (length s.seats) ≡ b → (b ≡ true → WordAllowed o x (net_of (seat_at s j) x).1 w) → Goes o (cond b (judged j s x (net_of (seat_at s j) x)) (s, Err Nobody)).0 w (cond b (after_net o j (seat_at s j) x (net_of (seat_at s j) x) w) w)
     by true e g = net_words o s j x w (in_range j _ e) f (g refl)
     by false e g = still o s w f
 plays o m s (Fall j) ds w h f = by (ltb j (length s.seats)) refl
   where
-    by : (b : Bool) → ltb j (length s.seats) ≡ b → Goes o (cond {A = Sight × Report} b (with_seat j (new_seat (seat_at s j).first) s, Done) (s, Nobody)).0 w (cond b (on_judge j (λ _. effect.new_judge) w) w)
+    by : (b : Bool) → ltb j (length s.seats) ≡ b → Goes o (cond {A = Sight × Result Report Fault} b (with_seat j (new_seat (seat_at s j).first) s, Ok Done) (s, Err Nobody)).0 w (cond b (on_judge j (λ _. effect.new_judge) w) w)
     by true e = judge_falls o s j w (in_range j _ e) f
     by false e = still o s w f
 plays o true s (Write n g k) ds w h f = still o _ w (on_disk _ f)
@@ -66,17 +69,17 @@ plays o m s Wipe ds w h f = still o _ w (on_disk [] f)
 
 -- ---- what was reported is true
 
--- where no judge answered, nothing is claimed
-none_claimed : (x : Word) (P : Reply → Register → Option Register → Type 0) → OfWord x Nobody P × OfWord x NoMemory P
-none_claimed (word.Ask a) P = (tt, tt)
-none_claimed (word.List n) P = (tt, tt)
-none_claimed word.Good P = (tt, tt)
-none_claimed (word.Chip a) P = (tt, tt)
-none_claimed (word.Ticks n) P = (tt, tt)
-none_claimed (word.Answer p) P = (tt, tt)
+-- where nothing was done, nothing is claimed
+none_claimed : (x : Word) (f : Fault) (P : Reply → Register → Option Register → Type 0) → OfWord x (Err f) P
+none_claimed (word.Ask a) f P = tt
+none_claimed (word.List n) f P = tt
+none_claimed word.Good f P = tt
+none_claimed (word.Chip a) f P = tt
+none_claimed (word.Ticks n) f P = tt
+none_claimed (word.Answer p) f P = tt
 
 -- what holds of every answer that a judge accepts holds of every acceptance that is reported
-pub claimed : (o : Setting) (m : Bool) (s : Sight) (e : Event) (ds : List Digest) (w : World) (P : ℕ → Reply → Register → Option Register → Type 0) → ((j : ℕ) → j < length s.seats → (p : Reply) (r : Seat × Said) → r ≡ answer_of (seat_at s j) p → WordAllowed o (word.Answer p) r.1 w → OfAccepted (judged j s (word.Answer p) r).1 (P j p)) → Allowed o m s e ds w → OfEvent e (played m s e ds).1 P
+pub claimed : (o : Setting) (m : Bool) (s : Sight) (e : Event) (ds : List Digest) (w : World) (P : ℕ → Reply → Register → Option Register → Type 0) → ((j : ℕ) → j < length s.seats → (p : Reply) (r : Seat × Result Said JudgeFault) → r ≡ answer_of (seat_at s j) p → WordAllowed o (word.Answer p) r.1 w → OfAccepted (judged j s (word.Answer p) r).1 (P j p)) → Allowed o m s e ds w → OfEvent e (played m s e ds).1 P
 claimed o m s (At i a) ds w P answers h = tt
 claimed o m s (Office j x q) ds w P answers h = by (ltb j (length s.seats)) refl m h
   where
@@ -88,10 +91,10 @@ claimed o m s (Office j x q) ds w P answers h = by (ltb j (length s.seats)) refl
     word_true (word.Ticks n) below g = tt
     word_true (word.Answer p) below g = answers j below p _ refl g
 
-    by : (b : Bool) → ltb j (length s.seats) ≡ b → (m : Bool) → (b ≡ true → m ≡ true → WordAllowed o x (office_of true (seat_at s j) x ds q).1 w) → OfWord x (cond b (cond m (judged j s x (office_of true (seat_at s j) x ds q)) (s, NoMemory)) (s, Nobody)).1 (P j)
+    by : (b : Bool) → ltb j (length s.seats) ≡ b → (m : Bool) → (b ≡ true → m ≡ true → WordAllowed o x (office_of true (seat_at s j) x ds q).1 w) → OfWord x (cond b (cond m (judged j s x (office_of true (seat_at s j) x ds q)) (s, Err NoMemory)) (s, Err Nobody)).1 (P j)
     by true e true g = word_true x (in_range j _ e) (g refl refl)
-    by true e false g = (none_claimed x (P j)).1
-    by false e n g = (none_claimed x (P j)).0
+    by true e false g = none_claimed x NoMemory (P j)
+    by false e n g = none_claimed x Nobody (P j)
 claimed o m s (Net j x) ds w P answers h = by (ltb j (length s.seats)) refl h
   where
     word_true : (x : Word) → j < length s.seats → WordAllowed o x (net_of (seat_at s j) x).1 w → OfWord x (judged j s x (net_of (seat_at s j) x)).1 (P j)
@@ -102,9 +105,9 @@ claimed o m s (Net j x) ds w P answers h = by (ltb j (length s.seats)) refl h
     word_true (word.Ticks n) below g = tt
     word_true (word.Answer p) below g = answers j below p _ refl g
 
-    by : (b : Bool) → ltb j (length s.seats) ≡ b → (b ≡ true → WordAllowed o x (net_of (seat_at s j) x).1 w) → OfWord x (cond b (judged j s x (net_of (seat_at s j) x)) (s, Nobody)).1 (P j)
+    by : (b : Bool) → ltb j (length s.seats) ≡ b → (b ≡ true → WordAllowed o x (net_of (seat_at s j) x).1 w) → OfWord x (cond b (judged j s x (net_of (seat_at s j) x)) (s, Err Nobody)).1 (P j)
     by true e g = word_true x (in_range j _ e) (g refl)
-    by false e g = (none_claimed x (P j)).0
+    by false e g = none_claimed x Nobody (P j)
 claimed o m s (Fall j) ds w P answers h = tt
 claimed o m s (Write n g k) ds w P answers h = tt
 claimed o m s Wipe ds w P answers h = tt
@@ -157,8 +160,8 @@ fleet_promise o first bad m j s t ps n a r h =
 
 -- ---- one call
 
-pub play_steps : (s : Sight) (e : Event) (ds : List Digest) (q : Sight × Report) → q ≡ played (found q.1) s e ds → PlaySteps s e ds q
+pub play_steps : (s : Sight) (e : Event) (ds : List Digest) (q : Sight × Result Report Fault) → q ≡ played (found q.1) s e ds → PlaySteps s e ds q
 play_steps s e ds q is o w h f = subst (λ t. Goes o t.0 w (after o (found q.1) s e ds w h)) (sym is) (plays o (found q.1) s e ds w h f)
 
-pub tells : (s : Sight) (e : Event) (ds : List Digest) (q : Sight × Report) → q ≡ played (found q.1) s e ds → Tells s e ds q
+pub tells : (s : Sight) (e : Event) (ds : List Digest) (q : Sight × Result Report Fault) → q ≡ played (found q.1) s e ds → Tells s e ds q
 tells s e ds q is o w h f k l = subst (λ t. Claim o e t.1 l) (sym is) (judged_claimed o (found q.1) s e ds w h f l)

@@ -14,7 +14,7 @@ use Rattle.boot.specs.Worlds as boot
 use Rattle.verifier.specs.Searches.{some}
 use Rattle.verifier.specs.Seats.{Seat}
 use Rattle.verifier.specs.Worlds as verifier
-use Rattle.fleet.specs.Sights.{Sight, with_machine, with_disk, showing}
+use Rattle.fleet.specs.Sights.{Sight, with_machine, with_disk, with_heard, showing}
 use Rattle.fleet.specs.declared.fleets.Shown.{Shown}
 use Rattle.boot.specs.declared.disks.Entry.{Entry}
 use Rattle.model.proofs.Knowledge.{Safe, derives_more}
@@ -39,10 +39,6 @@ set_each P d xs i x below new old j in_range = by (eqb j i) refl
     by : (b : Bool) → eqb j i ≡ b → P (get_or (set xs i x) j d) j
     by true e = let same : j ≡ i = eqb→eq j i (subst (λ b. T b) (sym e) tt) in subst (λ k. P (get_or (set xs i x) k d) k) (sym same) (subst (λ y. P y i) (sym (get_or-set_same xs i x d below)) new)
     by false e = let other : j ≡ i → ⊥ = λ s. absurd (subst (λ b. T b) e (subst (λ k. T (eqb j k)) s (eqb_refl j))) in subst (λ y. P y j) (sym (get_or-set_other xs i j x d other)) (old j other short)
-
--- with other things noted as heard
-abbrev pub with_heard : List Data → Sight → Sight
-with_heard hs s = record { first = s.first; bad = s.bad; machines = s.machines; seats = s.seats; disk = s.disk; heard = hs; shown = s.shown }
 
 -- what outsiders have is just what is noted
 pub record Told (o : Setting) (hs : List Data) (heard : List Term) : Type 0 where

@@ -1,5 +1,5 @@
 -- What really ran.
-use Rattle.std.proofs.Common.{◌≡◌, ℕ, ◌<◌, Bool, true, false, cond, ◌&&◌, T, eqb, ltb, ◌⊎◌, List, [], ◌∷◌, map, reverse, length, Some, None, Option, sym, refl, ap, ◌∙◌, subst, inl, inr, true≢false, arith, ltb→lt}
+use Rattle.std.proofs.Common.{◌≡◌, ℕ, ◌<◌, Bool, true, false, cond, ◌&&◌, T, eqb, ltb, ◌⊎◌, List, [], ◌∷◌, map, reverse, length, Some, None, Option, Ok, Err, Result, sym, refl, ap, ◌∙◌, subst, inl, inr, true≢false, arith, ltb→lt}
 use mathlib.Core.List.Memᴰ
 use mathlib.Core.List.{Memᴰ}
 use Rattle.model.specs.Term.{Derives}
@@ -7,22 +7,22 @@ use Rattle.model.specs.World.{World}
 use Rattle.model.specs.Effect.{made}
 use Rattle.model.specs.Run.{Run, here, onward, Moment}
 use Rattle.model.proofs.Moments.{now, then}
-use Rattle.device.specs.declared.chips.Answer.{Answer}
-use Rattle.device.specs.declared.chips.Answer.TheVariants as answer
-use Rattle.device.specs.declared.chips.Chip.{Chip}
 use Rattle.device.specs.declared.chips.Command.TheVariants as command
 use Rattle.device.specs.declared.digests.Data.{Data}
 use Rattle.device.specs.declared.digests.Digest.{Digest}
 use Rattle.device.specs.declared.registers.Register.{Register}
 use Rattle.device.specs.Commands as chip
-use Rattle.device.specs.Rows.{words, pushed}
+use Rattle.device.specs.Rows.{row, words, pushed}
 use Rattle.boot.specs.declared.machines.Machine.{Machine}
+use Rattle.verifier.specs.declared.judges.Acceptance.{Acceptance}
+use Rattle.verifier.specs.declared.judges.Fault.{Fault as JudgeFault}
 use Rattle.verifier.specs.declared.judges.Said.{Said}
 use Rattle.verifier.specs.declared.judges.Said.TheVariants as said
 use Rattle.verifier.specs.declared.judges.Word.{Word}
 use Rattle.verifier.specs.declared.judges.Word.TheVariants as word
 use Rattle.std.specs.List.{remove}
 use Rattle.std.proofs.lemmas.Bool.Decides.{Decides-eqb}
+use Rattle.device.specs.declared.refusals.Refusal.{Refusal}
 use Rattle.device.specs.declared.refusals.Refusal.TheVariants as refusal
 use Rattle.device.proofs.Rows.{same_digests_decides}
 use Rattle.device.proofs.Things.{same_data_decides}
@@ -30,20 +30,21 @@ use Rattle.model.specs.Effect as effect
 use Rattle.model.specs.Promise.{Judged}
 use Rattle.model.proofs.Acceptances.{asked_by_then}
 use Rattle.model.proofs.Judges.{settled}
-use Rattle.verifier.specs.declared.judges.Flags.{Flags}
 use Rattle.verifier.specs.declared.judges.List as list
 use Rattle.verifier.specs.declared.judges.Reply.{Reply}
 use Rattle.verifier.specs.Rows.{flags}
 use Rattle.verifier.specs.Searches.{some, seek, place, has_number, asks}
-use Rattle.verifier.specs.Seats.{Seat, with_questions, listed, signs, new_question, answer_by, answer_at, answer_of, office_of, net_of}
+use Rattle.verifier.specs.Seats.{Seat, refused, with_questions, listed, signs, new_question, answer_by, answer_at, answer_of, office_of, net_of}
 use Rattle.verifier.specs.Worlds.{question_of}
 use Rattle.fleet.proofs.Words.{answer_true}
 use Rattle.fleet.specs.declared.fleets.Act.{Act}
 use Rattle.fleet.specs.declared.fleets.Act.TheVariants.{Switch, Start, Load, Give, Keep, Run as RunBad, CutCount, CutClose}
 use Rattle.fleet.specs.declared.fleets.Event.{Event}
 use Rattle.fleet.specs.declared.fleets.Event.TheVariants.{At, Office, Net, Fall, Write, Wipe}
+use Rattle.fleet.specs.declared.fleets.Fault.{Fault}
+use Rattle.fleet.specs.declared.fleets.Fault.TheVariants.{Nobody, NoMemory}
 use Rattle.fleet.specs.declared.fleets.Report.{Report}
-use Rattle.fleet.specs.declared.fleets.Report.TheVariants.{Done, Nobody, NoMemory}
+use Rattle.fleet.specs.declared.fleets.Report.TheVariants.{Done}
 use Rattle.fleet.specs.declared.fleets.Shown.{Shown}
 use Rattle.fleet.specs.Sights.{Sight, tainted, same_signature, ran_of, shown_by, opening_told, running, acted, judged, machine_at, seat_at, found, played}
 use Rattle.fleet.specs.Worlds.{Setting, term_by, nonce_by, term_of, drawn, FleetStands, WordAllowed, Goes}
@@ -53,35 +54,28 @@ use Rattle.fleet.proofs.Plays.{plays, claimed, new_stands}
 
 -- ---- only a signature is remembered
 
-shown_cond : (S : List Shown) (b : Bool) (p q : Sight × Report) → p.0.shown ≡ S → q.0.shown ≡ S → (cond b p q).0.shown ≡ S
+shown_cond : (S : List Shown) (b : Bool) (p q : Sight × Result Report Fault) → p.0.shown ≡ S → q.0.shown ≡ S → (cond b p q).0.shown ≡ S
 shown_cond S true p q e f = e
 shown_cond S false p q e f = f
 
-opening_shown : (b : Bool) (i : ℕ) (s : Sight) (x : Machine) (r : Chip × Answer) → (opening_told b i s x r).0.shown ≡ s.shown
-opening_shown b i s x (c, answer.Opened d) = shown_cond s.shown b _ _ refl refl
-opening_shown b i s x (c, answer.Done) = refl
-opening_shown b i s x (c, answer.Signed g) = refl
-opening_shown b i s x (c, answer.Counter n) = refl
-opening_shown b i s x (c, answer.Closed y) = refl
-opening_shown b i s x (c, answer.Now n r) = refl
-opening_shown b i s x (c, answer.Refused k) = refl
+opening_shown : (b : Bool) (i : ℕ) (s : Sight) (x : Machine) (r : Result Data Refusal) → (opening_told b i s x r).0.shown ≡ s.shown
+opening_shown true i s x (Ok d) = refl
+opening_shown false i s x (Ok d) = refl
+opening_shown b i s x (Err k) = refl
 
 running_shown : (i : ℕ) (s : Sight) (x : Machine) (r : Option Register) → (running i s x r).0.shown ≡ s.shown
 running_shown i s x None = refl
 running_shown i s x (Some r) = refl
 
-judged_shown : (j : ℕ) (s : Sight) (x : Word) (r : Seat × Said) → (judged j s x r).0.shown ≡ s.shown
-judged_shown j s x (d, said.Done) = refl
-judged_shown j s x (d, said.Asks a q) = refl
-judged_shown j s x (d, said.Accepted n r f) = refl
-judged_shown j s x (d, said.Refused k) = refl
-judged_shown j s x (d, said.NoMemory) = refl
+judged_shown : (j : ℕ) (s : Sight) (x : Word) (r : Seat × Result Said JudgeFault) → (judged j s x r).0.shown ≡ s.shown
+judged_shown j s x (d, Ok z) = refl
+judged_shown j s x (d, Err f) = refl
 
 -- nothing is remembered, or machine i signed d
 abbrev Shows : Bool → Sight → Event → Sight → Type 0
 Shows m s e t = (t.shown ≡ s.shown) ⊎ ((i : ℕ) × (d : Data) × (e ≡ At i (Give (command.Sign d))) × (ltb i (length s.machines) ≡ true) × (m ≡ true) × (t.shown ≡ shown_by (machine_at s i) d ∷ s.shown))
 
-act_shows : (m : Bool) (s : Sight) (i : ℕ) (a : Act) (b : Bool) → ltb i (length s.machines) ≡ b → Shows m s (At i a) (cond b (acted m i s (machine_at s i) a) (s, Nobody)).0
+act_shows : (m : Bool) (s : Sight) (i : ℕ) (a : Act) (b : Bool) → ltb i (length s.machines) ≡ b → Shows m s (At i a) (cond b (acted m i s (machine_at s i) a) (s, Err Nobody)).0
 act_shows m s i a false e = inl refl
 act_shows m s i Switch true e = inl refl
 act_shows m s i (Start n) true e = inl refl
@@ -103,8 +97,8 @@ shows : (m : Bool) (s : Sight) (e : Event) (ds : List Digest) → Shows m s e (p
 shows m s (At i a) ds = act_shows m s i a _ refl
 shows m s (Office j x q) ds = inl (shown_cond s.shown (ltb j (length s.seats)) _ _ (shown_cond s.shown m _ _ (judged_shown j s x (office_of true (seat_at s j) x ds q)) refl) refl)
 shows m s (Net j x) ds = inl (shown_cond s.shown (ltb j (length s.seats)) _ _ (judged_shown j s x (net_of (seat_at s j) x)) refl)
-shows m s (Fall j) ds = inl (shown_cond s.shown (ltb j (length s.seats)) (_, Done) (s, Nobody) refl refl)
-shows m s (Write n f g) ds = inl (shown_cond s.shown m (_, Done) (s, NoMemory) refl refl)
+shows m s (Fall j) ds = inl (shown_cond s.shown (ltb j (length s.seats)) (_, Ok Done) (s, Err Nobody) refl refl)
+shows m s (Write n f g) ds = inl (shown_cond s.shown m (_, Ok Done) (s, Err NoMemory) refl refl)
 shows m s Wipe ds = inl refl
 
 -- ---- what is remembered of a signature was so at a moment
@@ -163,22 +157,22 @@ seek_found {A} p (y ∷ ys) x e = by (p y) refl (sym (seek_cons p y ys) ∙ e) (
     by false is f rest = (Memᴰ.tail (rest f).0, (rest f).1)
 
 -- what was accepted was signed by this chip, over this data
-accepted_signs : (d : Seat) (p : Reply) (n : ℕ) (row : Register) (g : Flags) → (answer_of d p).1 ≡ said.Accepted n row g → signs p row ≡ true
-accepted_signs d p n row g = by_chip (some (eqb p.chip) d.chips)
+accepted_signs : (d : Seat) (p : Reply) (z : Acceptance) → (answer_of d p).1 ≡ Ok (said.Accepted z) → signs p z.row ≡ true
+accepted_signs d p z = by_chip (some (eqb p.chip) d.chips)
   where
-    by_sign : (l : list.List) (k : ℕ) (b : Bool) → signs p l.row ≡ b → (cond {A = Seat × Said} b (with_questions (remove d.questions k) d, said.Accepted l.number l.row (flags (listed d.good) l.row)) (d, said.Refused refusal.BadSignature)).1 ≡ said.Accepted n row g → signs p row ≡ true
-    by_sign l k true is e = let same : l.row ≡ row = cc in subst (λ r. signs p r ≡ true) same is
+    by_sign : (l : list.List) (k : ℕ) (b : Bool) → signs p l.row ≡ b → (cond {A = Seat × Result Said JudgeFault} b (with_questions (remove d.questions k) d, Ok (said.Accepted (record { list = l.number; row = l.row; flags = flags (listed d.good) l.row }))) (refused d refusal.BadSignature)).1 ≡ Ok (said.Accepted z) → signs p z.row ≡ true
+    by_sign l k true is e = let same : record { list = l.number; row = l.row; flags = flags (listed d.good) l.row } ≡ z = cc in subst (λ y. signs p y.row ≡ true) same is
     by_sign l k false is e = absurd (grind arith)
 
-    by_list : (k : ℕ) (o : Option list.List) → (answer_by d p k o).1 ≡ said.Accepted n row g → signs p row ≡ true
+    by_list : (k : ℕ) (o : Option list.List) → (answer_by d p k o).1 ≡ Ok (said.Accepted z) → signs p z.row ≡ true
     by_list k None e = absurd (grind arith)
     by_list k (Some l) e = by_sign l k (signs p l.row) refl e
 
-    by_place : (o : Option ℕ) → (answer_at d p o).1 ≡ said.Accepted n row g → signs p row ≡ true
+    by_place : (o : Option ℕ) → (answer_at d p o).1 ≡ Ok (said.Accepted z) → signs p z.row ≡ true
     by_place None e = absurd (grind arith)
     by_place (Some k) e = by_list k (seek (has_number p.list) d.lists) e
 
-    by_chip : (b : Bool) → (cond {A = Seat × Said} b (answer_at d p (place (asks p.chip p.«data») 0 d.questions)) (d, said.Refused refusal.UnknownChip)).1 ≡ said.Accepted n row g → signs p row ≡ true
+    by_chip : (b : Bool) → (cond {A = Seat × Result Said JudgeFault} b (answer_at d p (place (asks p.chip p.«data») 0 d.questions)) (refused d refusal.UnknownChip)).1 ≡ Ok (said.Accepted z) → signs p z.row ≡ true
     by_chip true e = by_place (place (asks p.chip p.«data») 0 d.questions) e
     by_chip false e = absurd (grind arith)
 
@@ -189,29 +183,28 @@ three true true false e = absurd (true≢false (sym e))
 three true false c e = absurd (true≢false (sym e))
 three false b c e = absurd (true≢false (sym e))
 
-answer_really : (o : Setting) (s : Sight) (j : ℕ) (w : World) → j < length s.seats → FleetStands o s w → (p : Reply) (r : Seat × Said) → r ≡ answer_of (seat_at s j) p → WordAllowed o (word.Answer p) r.1 w → {k : ℕ} (l : Run o.programs k made w) → Remembers o s l → OfAccepted (judged j s (word.Answer p) r).1 (λ row ran. IfRan ran (λ x. Really o j p row x l))
-answer_really o s j w below f p (e, said.Done) is h l old = tt
-answer_really o s j w below f p (e, said.Asks b c) is h l old = tt
-answer_really o s j w below f p (e, said.Refused k) is h l old = tt
-answer_really o s j w below f p (e, said.NoMemory) is h l old = tt
-answer_really o s j w below f p (e, said.Accepted n row g) is h l old = by (seek (same_signature p.signature) s.shown) refl
+answer_really : (o : Setting) (s : Sight) (j : ℕ) (w : World) → j < length s.seats → FleetStands o s w → (p : Reply) (r : Seat × Result Said JudgeFault) → r ≡ answer_of (seat_at s j) p → WordAllowed o (word.Answer p) r.1 w → {k : ℕ} (l : Run o.programs k made w) → Remembers o s l → OfAccepted (judged j s (word.Answer p) r).1 (λ row ran. IfRan ran (λ x. Really o j p row x l))
+answer_really o s j w below f p (e, Ok said.Done) is h l old = tt
+answer_really o s j w below f p (e, Ok (said.Asks b c)) is h l old = tt
+answer_really o s j w below f p (e, Err k) is h l old = tt
+answer_really o s j w below f p (e, Ok (said.Accepted z)) is h l old = by (seek (same_signature p.signature) s.shown) refl
   where
-    judged_so : Judged o.programs l (effect.acceptance (question_of (drawn o) j (new_question p.chip p.«data»)) (words row))
-    judged_so = answer_true o s j w below f p (e, said.Accepted n row g) is h l
+    judged_so : Judged o.programs l (effect.acceptance (question_of (drawn o) j (new_question p.chip p.«data»)) (words z.row))
+    judged_so = answer_true o s j w below f p (e, Ok (said.Accepted z)) is h l
 
-    mine : (p.signature.chip ≡ p.chip) × (p.signature.«data» ≡ p.«data») × (words p.signature.register ≡ words row)
+    mine : (p.signature.chip ≡ p.chip) × (p.signature.«data» ≡ p.«data») × (words p.signature.register ≡ words z.row)
     mine =
-        let (a, b, c) = three _ _ _ (accepted_signs (seat_at s j) p n row g (sym (ap (λ q. q.1) is))) in
-        ((Decides-eqb _ _).0 a, (same_data_decides _ _).0 b, ap (λ ds. map (λ d. d.bytes) (reverse ds)) ((same_digests_decides _ _).0 c))
+        let (a, b, c) = three _ _ _ (accepted_signs (seat_at s j) p z (sym (ap (λ q. q.1) is))) in
+        ((Decides-eqb _ _).0 a, (same_data_decides _ _).0 b, ap (λ ds. map (λ d. d.bytes) (reverse ds)) ((same_digests_decides (row p.signature.register) (row z.row)).0 c))
 
-    by : (x : Option Shown) → seek (same_signature p.signature) s.shown ≡ x → IfRan (ran_of x) (λ ran. Really o j p row ran l)
-    by None found = tt
-    by (Some x) found =
-        let (there, passes) = seek_found (same_signature p.signature) s.shown x found in
+    by : (x : Option Shown) → seek (same_signature p.signature) s.shown ≡ x → IfRan (ran_of x) (λ ran. Really o j p z.row ran l)
+    by None sought = tt
+    by (Some x) sought =
+        let (there, passes) = seek_found (same_signature p.signature) s.shown x sought in
         let (a, b, c) = three _ _ _ passes in
         let chip_is : x.signature.chip ≡ p.chip = sym ((Decides-eqb _ _).0 a) ∙ mine.0 in
         let data_is : x.signature.«data» ≡ p.«data» = sym ((same_data_decides _ _).0 b) ∙ mine.1 in
-        let row_is : words x.signature.register ≡ words row = ap (λ ds. map (λ d. d.bytes) (reverse ds)) (sym ((same_digests_decides _ _).0 c)) ∙ mine.2 in
+        let row_is : words x.signature.register ≡ words z.row = ap (λ ds. map (λ d. d.bytes) (reverse ds)) (sym ((same_digests_decides (row p.signature.register) (row x.signature.register)).0 c)) ∙ mine.2 in
         let was = old x there in
         record {
           moment = was.moment;

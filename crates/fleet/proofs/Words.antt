@@ -1,5 +1,5 @@
 -- Each word to a judge is matched by steps of the world.
-use Rattle.std.proofs.Common.{◌≡◌, ℕ, ◌<◌, Bool, true, false, cond, eqb, ltb, List, [], ◌∷◌, length, is_some, Some, None, Option, sym, refl, ap, ◌∙◌, subst, inl, inr, arith}
+use Rattle.std.proofs.Common.{◌≡◌, ℕ, ◌<◌, Bool, true, false, cond, eqb, ltb, List, [], ◌∷◌, length, is_some, Some, None, Option, Ok, Err, Result, sym, refl, ap, ◌∙◌, subst, inl, inr, arith}
 use Rattle.model.specs.World as world
 use Rattle.model.specs.World.{Programs, World}
 use Rattle.model.specs.Effect as effect
@@ -16,6 +16,8 @@ use Rattle.device.specs.declared.digests.Digest.{Digest}
 use Rattle.device.specs.declared.registers.Register.{Register}
 use Rattle.device.specs.Rows.{words}
 use Rattle.verifier.specs.declared.judges.Reply.{Reply}
+use Rattle.verifier.specs.declared.judges.Fault.{Fault}
+use Rattle.verifier.specs.declared.judges.Fault.TheVariants.{Refused, NoMemory}
 use Rattle.verifier.specs.declared.judges.Said.{Said}
 use Rattle.verifier.specs.declared.judges.Said.TheVariants as said
 use Rattle.verifier.specs.declared.judges.Word.{Word}
@@ -27,39 +29,36 @@ use Rattle.verifier.specs.Seats.{Seat, new_seat, new_question, begins, signs, li
 use Rattle.verifier.specs.Worlds as verifier
 use Rattle.verifier.proofs.Worlds as judges
 use Rattle.verifier.proofs.Refusals as idle
-use Rattle.fleet.specs.Sights.{Sight, with_seat, seat_at, judged}
+use Rattle.fleet.specs.Sights.{Sight, with_seat, with_heard, seat_at, judged}
 use Rattle.fleet.specs.Worlds.{Setting, term_by, nonce_by, drawn, FleetStands, Goes, WordAllowed, after_word, after_net, OfficeWords, NetWords, JudgeFalls}
-use Rattle.fleet.proofs.Standing.{Told, told, told_heard, with_heard, set_each, machine_else, seat_else}
+use Rattle.fleet.proofs.Standing.{Told, told, told_heard, set_each, machine_else, seat_else}
 
 -- ---- what a word can be answered with; the first program stays
 
 -- a plain answer: nothing is asked or accepted
-abbrev Plain : Said → Type 0
-Plain said.Done = Unit {0}
-Plain (said.Asks a q) = ⊥
-Plain (said.Accepted n r f) = ⊥
-Plain (said.Refused k) = Unit {0}
-Plain said.NoMemory = Unit {0}
+abbrev Plain : Result Said Fault → Type 0
+Plain (Ok said.Done) = Unit {0}
+Plain (Ok (said.Asks a q)) = ⊥
+Plain (Ok (said.Accepted x)) = ⊥
+Plain (Err f) = Unit {0}
 
-abbrev Asks : Said → Type 0
-Asks said.Done = ⊥
-Asks (said.Asks a q) = Unit {0}
-Asks (said.Accepted n r f) = ⊥
-Asks (said.Refused k) = Unit {0}
-Asks said.NoMemory = Unit {0}
+abbrev Asks : Result Said Fault → Type 0
+Asks (Ok said.Done) = ⊥
+Asks (Ok (said.Asks a q)) = Unit {0}
+Asks (Ok (said.Accepted x)) = ⊥
+Asks (Err f) = Unit {0}
 
-abbrev Accepts : Said → Type 0
-Accepts said.Done = ⊥
-Accepts (said.Asks a q) = ⊥
-Accepts (said.Accepted n r f) = Unit {0}
-Accepts (said.Refused k) = Unit {0}
-Accepts said.NoMemory = Unit {0}
+abbrev Accepts : Result Said Fault → Type 0
+Accepts (Ok said.Done) = ⊥
+Accepts (Ok (said.Asks a q)) = ⊥
+Accepts (Ok (said.Accepted x)) = Unit {0}
+Accepts (Err f) = Unit {0}
 
 -- the judge keeps its first program, and what it says is of this kind
-abbrev Kind : (Said → Type 0) → Seat → Seat × Said → Type 0
+abbrev Kind : (Result Said Fault → Type 0) → Seat → Seat × Result Said Fault → Type 0
 Kind S d r = (r.0.first ≡ d.first) × S r.1
 
-kind_cond : (S : Said → Type 0) (d : Seat) (b : Bool) (p q : Seat × Said) → Kind S d p → Kind S d q → Kind S d (cond b p q)
+kind_cond : (S : Result Said Fault → Type 0) (d : Seat) (b : Bool) (p q : Seat × Result Said Fault) → Kind S d p → Kind S d q → Kind S d (cond b p q)
 kind_cond S d true p q f g = f
 kind_cond S d false p q f g = g
 
@@ -127,53 +126,53 @@ module _ (o : Setting) (s : Sight) (j : ℕ) (w : World) (below : j < length s.s
   falls = one_step (new_seat d.first) (λ _. effect.new_judge) ((judges.falls d _ refl).falls o.programs (drawn o) w j st) refl
 
   -- what the judge kept, and what it said
-  kind : (S : Said → Type 0) {r q : Seat × Said} → r ≡ q → Kind S d q → Kind S d r
+  kind : (S : Result Said Fault → Type 0) {r q : Seat × Result Said Fault} → r ≡ q → Kind S d q → Kind S d r
   kind S is k = subst (λ p. Kind S d p) (sym is) k
 
-  chip_goes : (a : ℕ) (ds : List Digest) (q : Option Data) (r : Seat × Said) → r ≡ office_of true d (word.Chip a) ds q → Goes o (judged j s (word.Chip a) r).0 w (after_word o j d (word.Chip a) ds r w)
-  chip_goes a ds q (e, said.Done) is = one_step e (effect.with_chip a) ((judges.office_steps true d (word.Chip a) ds q _ is).takes o.programs (drawn o) w j st refl) (kind Plain is (chip_kind d a ds q)).0
-  chip_goes a ds q (e, said.Asks b c) is = absurd (kind Plain is (chip_kind d a ds q)).1
-  chip_goes a ds q (e, said.Accepted n r g) is = absurd (kind Plain is (chip_kind d a ds q)).1
-  chip_goes a ds q (e, said.Refused k) is = same e ((idle.office_idle true d (word.Chip a) ds q _ is).0 k refl)
-  chip_goes a ds q (e, said.NoMemory) is = same e ((idle.office_idle true d (word.Chip a) ds q _ is).1 refl)
+  chip_goes : (a : ℕ) (ds : List Digest) (q : Option Data) (r : Seat × Result Said Fault) → r ≡ office_of true d (word.Chip a) ds q → Goes o (judged j s (word.Chip a) r).0 w (after_word o j d (word.Chip a) ds r w)
+  chip_goes a ds q (e, Ok said.Done) is = one_step e (effect.with_chip a) ((judges.office_steps true d (word.Chip a) ds q _ is).takes o.programs (drawn o) w j st refl) (kind Plain is (chip_kind d a ds q)).0
+  chip_goes a ds q (e, Ok (said.Asks b c)) is = absurd (kind Plain is (chip_kind d a ds q)).1
+  chip_goes a ds q (e, Ok (said.Accepted z)) is = absurd (kind Plain is (chip_kind d a ds q)).1
+  chip_goes a ds q (e, Err (Refused k)) is = same e ((idle.office_idle true d (word.Chip a) ds q _ is).0 k refl)
+  chip_goes a ds q (e, Err NoMemory) is = same e ((idle.office_idle true d (word.Chip a) ds q _ is).1 refl)
 
-  list_goes : (n : ℕ) (ds : List Digest) (q : Option Data) (r : Seat × Said) → r ≡ office_of true d (word.List n) ds q → Goes o (judged j s (word.List n) r).0 w (after_word o j d (word.List n) ds r w)
-  list_goes n ds q (e, said.Done) is = one_step e (effect.with_list (verifier.latest ds)) ((judges.office_steps true d (word.List n) ds q _ is).takes o.programs (drawn o) w j (f.first_is ∙ ap (λ x. x.bytes) (sym (f.seats_first j below))) st refl) (kind Plain is (lists_kind d n ds q)).0
-  list_goes n ds q (e, said.Asks b c) is = absurd (kind Plain is (lists_kind d n ds q)).1
-  list_goes n ds q (e, said.Accepted m r g) is = absurd (kind Plain is (lists_kind d n ds q)).1
-  list_goes n ds q (e, said.Refused k) is = same e ((idle.office_idle true d (word.List n) ds q _ is).0 k refl)
-  list_goes n ds q (e, said.NoMemory) is = same e ((idle.office_idle true d (word.List n) ds q _ is).1 refl)
+  list_goes : (n : ℕ) (ds : List Digest) (q : Option Data) (r : Seat × Result Said Fault) → r ≡ office_of true d (word.List n) ds q → Goes o (judged j s (word.List n) r).0 w (after_word o j d (word.List n) ds r w)
+  list_goes n ds q (e, Ok said.Done) is = one_step e (effect.with_list (verifier.latest ds)) ((judges.office_steps true d (word.List n) ds q _ is).takes o.programs (drawn o) w j (f.first_is ∙ ap (λ x. x.bytes) (sym (f.seats_first j below))) st refl) (kind Plain is (lists_kind d n ds q)).0
+  list_goes n ds q (e, Ok (said.Asks b c)) is = absurd (kind Plain is (lists_kind d n ds q)).1
+  list_goes n ds q (e, Ok (said.Accepted z)) is = absurd (kind Plain is (lists_kind d n ds q)).1
+  list_goes n ds q (e, Err (Refused k)) is = same e ((idle.office_idle true d (word.List n) ds q _ is).0 k refl)
+  list_goes n ds q (e, Err NoMemory) is = same e ((idle.office_idle true d (word.List n) ds q _ is).1 refl)
 
-  good_goes : (ds : List Digest) (q : Option Data) (r : Seat × Said) → r ≡ office_of true d word.Good ds q → Goes o (judged j s word.Good r).0 w (after_word o j d word.Good ds r w)
-  good_goes ds q (e, said.Done) is = record { steps = 0; run = here; stands = seated e w s.heard ((judges.office_steps true d word.Good ds q _ is).stays (drawn o) w j st) (kind Plain is (good_kind d ds q)).0 refl (λ k _. refl) (told f) }
-  good_goes ds q (e, said.Asks b c) is = absurd (kind Plain is (good_kind d ds q)).1
-  good_goes ds q (e, said.Accepted n r g) is = absurd (kind Plain is (good_kind d ds q)).1
-  good_goes ds q (e, said.Refused k) is = same e ((idle.office_idle true d word.Good ds q _ is).0 k refl)
-  good_goes ds q (e, said.NoMemory) is = same e ((idle.office_idle true d word.Good ds q _ is).1 refl)
+  good_goes : (ds : List Digest) (q : Option Data) (r : Seat × Result Said Fault) → r ≡ office_of true d word.Good ds q → Goes o (judged j s word.Good r).0 w (after_word o j d word.Good ds r w)
+  good_goes ds q (e, Ok said.Done) is = record { steps = 0; run = here; stands = seated e w s.heard ((judges.office_steps true d word.Good ds q _ is).stays (drawn o) w j st) (kind Plain is (good_kind d ds q)).0 refl (λ k _. refl) (told f) }
+  good_goes ds q (e, Ok (said.Asks b c)) is = absurd (kind Plain is (good_kind d ds q)).1
+  good_goes ds q (e, Ok (said.Accepted z)) is = absurd (kind Plain is (good_kind d ds q)).1
+  good_goes ds q (e, Err (Refused k)) is = same e ((idle.office_idle true d word.Good ds q _ is).0 k refl)
+  good_goes ds q (e, Err NoMemory) is = same e ((idle.office_idle true d word.Good ds q _ is).1 refl)
 
   ticks_goes : (n : ℕ) (ds : List Digest) (q : Option Data) → Goes o (judged j s (word.Ticks n) (office_of true d (word.Ticks n) ds q)).0 w (after_word o j d (word.Ticks n) ds (office_of true d (word.Ticks n) ds q) w)
   ticks_goes n ds q =
       let (r, h) = (judges.ages d n).puts_out o.programs (drawn o) w j st in
       record { steps = _; run = r; stands = seated _ _ s.heard h refl refl (λ k other. at_other j _ w.judges k other) (told f) }
 
-  ask_goes : (a : ℕ) (ds : List Digest) (q : Option Data) (r : Seat × Said) → r ≡ office_of true d (word.Ask a) ds q → WordAllowed o (word.Ask a) r.1 w → Goes o (judged j s (word.Ask a) r).0 w (after_word o j d (word.Ask a) ds r w)
-  ask_goes a ds q (e, said.Done) is h = absurd (kind Asks is (asks_kind d a ds q)).1
-  ask_goes a ds q (e, said.Asks b c) is h =
+  ask_goes : (a : ℕ) (ds : List Digest) (q : Option Data) (r : Seat × Result Said Fault) → r ≡ office_of true d (word.Ask a) ds q → WordAllowed o (word.Ask a) r.1 w → Goes o (judged j s (word.Ask a) r).0 w (after_word o j d (word.Ask a) ds r w)
+  ask_goes a ds q (e, Ok said.Done) is h = absurd (kind Asks is (asks_kind d a ds q)).1
+  ask_goes a ds q (e, Ok (said.Asks b c)) is h =
       let new : o.names c.bytes ≡ Some w.next = h b c refl in
       let (r, t) = (judges.office_steps true d (word.Ask a) ds q _ is).asks o.programs (drawn o) w j b c st refl (ap nonce_by new) in
       record { steps = _; run = r; stands = seated e _ (c ∷ s.heard) t (kind Asks is (asks_kind d a ds q)).0 refl (λ k other. at_other j _ (effect.asking (effect.question j a w) w).judges k other ∙ at_other j _ w.judges k other) (subst (λ u. Told o (c ∷ s.heard) (u ∷ w.heard)) (ap term_by new) (told_heard o s.heard w.heard c (told f))) }
-  ask_goes a ds q (e, said.Accepted n r g) is h = absurd (kind Asks is (asks_kind d a ds q)).1
-  ask_goes a ds q (e, said.Refused k) is h = same e ((idle.office_idle true d (word.Ask a) ds q _ is).0 k refl)
-  ask_goes a ds q (e, said.NoMemory) is h = same e ((idle.office_idle true d (word.Ask a) ds q _ is).1 refl)
+  ask_goes a ds q (e, Ok (said.Accepted z)) is h = absurd (kind Asks is (asks_kind d a ds q)).1
+  ask_goes a ds q (e, Err (Refused k)) is h = same e ((idle.office_idle true d (word.Ask a) ds q _ is).0 k refl)
+  ask_goes a ds q (e, Err NoMemory) is h = same e ((idle.office_idle true d (word.Ask a) ds q _ is).1 refl)
 
-  answer_goes : (p : Reply) (r : Seat × Said) → r ≡ answer_of d p → WordAllowed o (word.Answer p) r.1 w → Goes o (judged j s (word.Answer p) r).0 w (after_word o j d (word.Answer p) [] r w)
-  answer_goes p (e, said.Done) is h = absurd (kind Accepts is (answer_kind d p)).1
-  answer_goes p (e, said.Asks b c) is h = absurd (kind Accepts is (answer_kind d p)).1
-  answer_goes p (e, said.Accepted n r g) is h =
-      let (t, z) = (judges.net_steps d (word.Answer p) _ is).accepts o.programs (drawn o) w j n r g st refl (h n r g refl) in
-      record { steps = 1; run = onward here t; stands = seated e _ s.heard z (kind Accepts is (answer_kind d p)).0 refl (λ k other. at_other j _ w.judges k other) (told f) }
-  answer_goes p (e, said.Refused k) is h = same e ((idle.net_idle d (word.Answer p) _ is).0 k refl)
-  answer_goes p (e, said.NoMemory) is h = same e ((idle.net_idle d (word.Answer p) _ is).1 refl)
+  answer_goes : (p : Reply) (r : Seat × Result Said Fault) → r ≡ answer_of d p → WordAllowed o (word.Answer p) r.1 w → Goes o (judged j s (word.Answer p) r).0 w (after_word o j d (word.Answer p) [] r w)
+  answer_goes p (e, Ok said.Done) is h = absurd (kind Accepts is (answer_kind d p)).1
+  answer_goes p (e, Ok (said.Asks b c)) is h = absurd (kind Accepts is (answer_kind d p)).1
+  answer_goes p (e, Ok (said.Accepted z)) is h =
+      let (t, v) = (judges.net_steps d (word.Answer p) _ is).accepts o.programs (drawn o) w j z st refl (h z refl) in
+      record { steps = 1; run = onward here t; stands = seated e _ s.heard v (kind Accepts is (answer_kind d p)).0 refl (λ k other. at_other j _ w.judges k other) (told f) }
+  answer_goes p (e, Err (Refused k)) is h = same e ((idle.net_idle d (word.Answer p) _ is).0 k refl)
+  answer_goes p (e, Err NoMemory) is h = same e ((idle.net_idle d (word.Answer p) _ is).1 refl)
 
   office_goes : (x : Word) (ds : List Digest) (q : Option Data) → WordAllowed o x (office_of true d x ds q).1 w → Goes o (judged j s x (office_of true d x ds q)).0 w (after_word o j d x ds (office_of true d x ds q) w)
   office_goes (word.Ask a) ds q h = ask_goes a ds q _ refl h
@@ -201,14 +200,14 @@ added : {pr : Programs} {k : ℕ} {w : World} (l : Run pr k made w) (c : world.A
 added {w = w} l c (inl e) is = absurd (longer c w.accepted (sym is ∙ e))
 added {pr} l c (inr (z, e, j)) is = let same : z ≡ c = cc in subst (λ y. Judged pr l y) same j
 
-pub answer_true : (o : Setting) (s : Sight) (j : ℕ) (w : World) → j < length s.seats → FleetStands o s w → (p : Reply) (r : Seat × Said) → r ≡ answer_of (seat_at s j) p → WordAllowed o (word.Answer p) r.1 w → {k : ℕ} (l : Run o.programs k made w) → OfAccepted (judged j s (word.Answer p) r).1 (λ row _. Judged o.programs l (effect.acceptance (question_of (drawn o) j (new_question p.chip p.«data»)) (words row)))
-answer_true o s j w below f p (e, said.Done) is h l = tt
-answer_true o s j w below f p (e, said.Asks b c) is h l = tt
-answer_true o s j w below f p (e, said.Accepted n r g) is h {k} l =
-    let (t, _) = (judges.net_steps (seat_at s j) (word.Answer p) _ is).accepts o.programs (drawn o) w j n r g (f.seats_stand j below) refl (h n r g refl) in
+pub answer_true : (o : Setting) (s : Sight) (j : ℕ) (w : World) → j < length s.seats → FleetStands o s w → (p : Reply) (r : Seat × Result Said Fault) → r ≡ answer_of (seat_at s j) p → WordAllowed o (word.Answer p) r.1 w → {k : ℕ} (l : Run o.programs k made w) → OfAccepted (judged j s (word.Answer p) r).1 (λ row _. Judged o.programs l (effect.acceptance (question_of (drawn o) j (new_question p.chip p.«data»)) (words row)))
+answer_true o s j w below f p (e, Ok said.Done) is h l = tt
+answer_true o s j w below f p (e, Ok (said.Asks b c)) is h l = tt
+answer_true o s j w below f p (e, Ok (said.Accepted z)) is h {k} l =
+    let (t, _) = (judges.net_steps (seat_at s j) (word.Answer p) _ is).accepts o.programs (drawn o) w j z (f.seats_stand j below) refl (h z refl) in
     added l _ ((main o.programs k w l).acceptances.judged _ t) refl
-answer_true o s j w below f p (e, said.Refused k) is h l = tt
-answer_true o s j w below f p (e, said.NoMemory) is h l = tt
+answer_true o s j w below f p (e, Err (Refused k)) is h l = tt
+answer_true o s j w below f p (e, Err NoMemory) is h l = tt
 
 pub office_words : OfficeWords
 office_words o s j x ds draw w below f h = office_goes o s j w below f x ds draw h

@@ -1,5 +1,5 @@
 -- Worked cases: scripts of events, each with what has to come. Programs p and q are good, b is bad; every row begins with the first program.
-use Rattle.std.specs.Prelude.{◌≡◌, ℕ, Bool, true, false, List, [], ◌∷◌, ◌++◌, take, replicate, Some, None, Option}
+use Rattle.std.specs.Prelude.{◌≡◌, ℕ, Bool, true, false, List, [], ◌∷◌, ◌++◌, take, replicate, Some, None, Option, Ok, Err, Result}
 use Rattle.device.specs.declared.chips.Answer.{Answer}
 use Rattle.device.specs.declared.chips.Answer.TheVariants as answer
 use Rattle.device.specs.declared.chips.Command.TheVariants as command
@@ -16,16 +16,16 @@ use Rattle.boot.specs.declared.disks.File.{File}
 use Rattle.boot.specs.declared.disks.File.TheVariants as file
 use Rattle.boot.specs.declared.disks.Name.{Name}
 use Rattle.boot.specs.Machines.{new_machine}
-use Rattle.verifier.specs.declared.judges.Said.{Said}
-use Rattle.verifier.specs.declared.judges.Said.TheVariants as said
 use Rattle.verifier.specs.declared.judges.Word.TheVariants as word
 use Rattle.verifier.specs.Rows.{gathered}
 use Rattle.verifier.specs.Seats.{new_seat}
 use Rattle.fleet.specs.declared.fleets.Act.TheVariants.{Start, Give, Keep, CutClose}
 use Rattle.fleet.specs.declared.fleets.Event.{Event}
 use Rattle.fleet.specs.declared.fleets.Event.TheVariants.{At, Office, Net, Write}
+use Rattle.fleet.specs.declared.fleets.Fault.{Fault}
+use Rattle.fleet.specs.declared.fleets.Fault.TheVariants.{Refused, Unwilling, Nobody, NoMemory}
 use Rattle.fleet.specs.declared.fleets.Report.{Report}
-use Rattle.fleet.specs.declared.fleets.Report.TheVariants.{Done, Refused, Unwilling, Nobody, NoMemory, Answered, Told, Accepted}
+use Rattle.fleet.specs.declared.fleets.Report.TheVariants.{Done, Answered, Told, Accepted}
 use Rattle.model.specs.Effect.{made}
 use Rattle.fleet.specs.Makes.{Begins}
 use Rattle.fleet.specs.Runs.{Happening, Ran, Ready, Agrees}
@@ -53,24 +53,22 @@ brief_answer (answer.Counter n) = Fine
 brief_answer (answer.Closed x) = Number x.content.number
 brief_answer (answer.Opened d) = Fine
 brief_answer (answer.Now n r) = Fine
-brief_answer (answer.Refused k) = No (number_of k)
 
-abbrev pub brief_said : Said → Brief
-brief_said said.Done = Fine
-brief_said (said.Asks a q) = Fine
-brief_said (said.Accepted n r f) = Fine
-brief_said (said.Refused k) = No (number_of k)
-brief_said said.NoMemory = Nothing
+abbrev pub brief_report : Report → Brief
+brief_report Done = Fine
+brief_report (Answered a) = brief_answer a
+brief_report (Told x) = Fine
+brief_report (Accepted x o) = Row (row x.row) (take x.row.len x.flags.known) (row_in o)
 
-abbrev pub brief : Report → Brief
-brief Done = Fine
-brief (Refused k) = No (number_of k)
-brief Unwilling = Nothing
-brief Nobody = Nothing
-brief NoMemory = Nothing
-brief (Answered a) = brief_answer a
-brief (Told x) = brief_said x
-brief (Accepted n r f o) = Row (row r) (take r.len f.known) (row_in o)
+abbrev pub brief_fault : Fault → Brief
+brief_fault (Refused k) = No (number_of k)
+brief_fault Unwilling = Nothing
+brief_fault Nobody = Nothing
+brief_fault NoMemory = Nothing
+
+abbrev pub brief : Result Report Fault → Brief
+brief (Ok r) = brief_report r
+brief (Err f) = brief_fault f
 
 -- an event, the digests beside it, and what has to come
 pub record Line : Type 0 where

@@ -1,4 +1,5 @@
 pub mod Cases
+pub mod Faults
 pub mod Makes
 pub mod Runs
 pub mod Sights

@@ -1,5 +1,5 @@
 -- Runs of the fleet: events with their reports, one after another, from the making of the fleet on.
-use Rattle.std.specs.Prelude.{◌≡◌, ℕ, Bool, true, false, cond, not, List, [], ◌∷◌, length, Option, nat_lt, refl}
+use Rattle.std.specs.Prelude.{◌≡◌, ℕ, Bool, true, false, cond, not, List, [], ◌∷◌, length, Option, Ok, Err, Result, nat_lt, refl}
 use Rattle.model.specs.World.{World}
 use Rattle.model.specs.Effect as effect
 use Rattle.model.specs.Effect.{on_judge, made}
@@ -17,8 +17,9 @@ use Rattle.verifier.specs.Worlds.{question_of}
 use Rattle.fleet.specs.declared.fleets.Act.{Act}
 use Rattle.fleet.specs.declared.fleets.Event.{Event}
 use Rattle.fleet.specs.declared.fleets.Event.TheVariants.{At, Office, Net, Fall, Write, Wipe}
+use Rattle.fleet.specs.declared.fleets.Fault.{Fault}
 use Rattle.fleet.specs.declared.fleets.Report.{Report}
-use Rattle.fleet.specs.declared.fleets.Report.TheVariants.{Done, Refused, Unwilling, Nobody, NoMemory, Answered, Told, Accepted}
+use Rattle.fleet.specs.declared.fleets.Report.TheVariants.{Done, Answered, Told, Accepted}
 use Rattle.fleet.specs.Makes.{Begins}
 use Rattle.fleet.specs.Sights.{Sight, found, machine_at, seat_at, played}
 use Rattle.fleet.specs.Worlds.{Setting, drawn, FleetStands, ActAllowed, after_act, WordAllowed, after_word, after_net, Goes}
@@ -52,7 +53,7 @@ abbrev pub Plays : Type 0
 Plays = (o : Setting) (m : Bool) (s : Sight) (e : Event) (ds : List Digest) (w : World) (h : Allowed o m s e ds w) → FleetStands o s w → Goes o (played m s e ds).0 w (after o m s e ds w h)
 
 -- the same of one call: q is the fleet after the event, and what it reports
-abbrev pub PlaySteps : Sight → Event → List Digest → Sight × Report → Type 0
+abbrev pub PlaySteps : Sight → Event → List Digest → Sight × Result Report Fault → Type 0
 PlaySteps s e ds q = (o : Setting) (w : World) (h : Allowed o (found q.1) s e ds w) → FleetStands o s w → Goes o q.0 w (after o (found q.1) s e ds w h)
 
 -- ---- many
@@ -61,7 +62,7 @@ PlaySteps s e ds q = (o : Setting) (w : World) (h : Allowed o (found q.1) s e ds
 pub record Happening : Type 0 where
   pub event : Event
   pub digests : List Digest
-  pub report : Report
+  pub report : Result Report Fault
 
 abbrev pub next : Sight → Happening → Sight
 next s p = (played (found p.report) s p.event p.digests).0
@@ -84,17 +85,14 @@ final o s (p ∷ ps) w h = final o (next s p) ps (after o (found p.report) s p.e
 -- ---- what a report claims
 
 -- P of the row that was accepted, and of what was reported as loaded
-abbrev pub OfAccepted : Report → (Register → Option Register → Type 0) → Type 0
-OfAccepted Done P = Unit {0}
-OfAccepted (Refused k) P = Unit {0}
-OfAccepted Unwilling P = Unit {0}
-OfAccepted Nobody P = Unit {0}
-OfAccepted NoMemory P = Unit {0}
-OfAccepted (Answered a) P = Unit {0}
-OfAccepted (Told x) P = Unit {0}
-OfAccepted (Accepted n r f q) P = P r q
+abbrev pub OfAccepted : Result Report Fault → (Register → Option Register → Type 0) → Type 0
+OfAccepted (Ok Done) P = Unit {0}
+OfAccepted (Ok (Answered a)) P = Unit {0}
+OfAccepted (Ok (Told x)) P = Unit {0}
+OfAccepted (Ok (Accepted x q)) P = P x.row q
+OfAccepted (Err f) P = Unit {0}
 
-abbrev pub OfWord : Word → Report → (Reply → Register → Option Register → Type 0) → Type 0
+abbrev pub OfWord : Word → Result Report Fault → (Reply → Register → Option Register → Type 0) → Type 0
 OfWord (word.Ask a) r P = Unit {0}
 OfWord (word.List n) r P = Unit {0}
 OfWord word.Good r P = Unit {0}
@@ -103,7 +101,7 @@ OfWord (word.Ticks n) r P = Unit {0}
 OfWord (word.Answer p) r P = OfAccepted r (P p)
 
 -- P of each acceptance: the judge, what it was brought, the row, and what was reported as loaded
-abbrev pub OfEvent : Event → Report → (ℕ → Reply → Register → Option Register → Type 0) → Type 0
+abbrev pub OfEvent : Event → Result Report Fault → (ℕ → Reply → Register → Option Register → Type 0) → Type 0
 OfEvent (At i a) r P = Unit {0}
 OfEvent (Office j x q) r P = OfWord x r (P j)
 OfEvent (Net j x) r P = OfWord x r (P j)
@@ -112,11 +110,11 @@ OfEvent (Write n f g) r P = Unit {0}
 OfEvent Wipe r P = Unit {0}
 
 -- of every run of steps l that leads to the world in which the event came: the judge had this question open, knew the chip and had the row, which was the chip's at a moment of l after the judge asked; and if all in it are good, just these had been loaded
-abbrev pub Claim : (o : Setting) → Event → Report → {k : ℕ} {w : World} → Run o.programs k made w → Type 0
+abbrev pub Claim : (o : Setting) → Event → Result Report Fault → {k : ℕ} {w : World} → Run o.programs k made w → Type 0
 Claim o e r l = OfEvent e r (λ j p row _. Judged o.programs l (effect.acceptance (question_of (drawn o) j (new_question p.chip p.«data»)) (words row)))
 
 -- what one call reports is true
-abbrev pub Tells : Sight → Event → List Digest → Sight × Report → Type 0
+abbrev pub Tells : Sight → Event → List Digest → Sight × Result Report Fault → Type 0
 Tells s e ds q = (o : Setting) (w : World) → Allowed o (found q.1) s e ds w → FleetStands o s w → (k : ℕ) (l : Run o.programs k made w) → Claim o e q.1 l
 
 abbrev pub Claims : (o : Setting) (s : Sight) (ps : List Happening) (w : World) → Ready o s ps w → Type 0

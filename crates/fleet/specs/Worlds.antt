@@ -1,5 +1,5 @@
 -- How a world stands for a fleet, what outsiders are taken to bring, and the world after each event.
-use Rattle.std.specs.Prelude.{◌≡◌, ℕ, ◌^◌, ◌<◌, Bool, true, false, cond, not, ◌&&◌, List, [], length, Some, None, Option, ◌==◌, nat_lt, refl}
+use Rattle.std.specs.Prelude.{◌≡◌, ℕ, ◌^◌, ◌<◌, Bool, true, false, cond, not, ◌&&◌, List, [], length, Some, None, Option, Ok, Err, Result, ◌==◌, nat_lt, refl}
 use mathlib.Core.List.{Memᴰ}
 use Rattle.model.specs.Term as term
 use Rattle.model.specs.Term.{Term, Derives}
@@ -21,7 +21,8 @@ use Rattle.boot.specs.declared.machines.Machine.{Machine}
 use Rattle.boot.specs.Starts.{start_of, ask_of}
 use Rattle.boot.specs.Worlds as boot
 use Rattle.boot.specs.Worlds.{after_row, latest}
-use Rattle.verifier.specs.declared.judges.Flags.{Flags}
+use Rattle.verifier.specs.declared.judges.Acceptance.{Acceptance}
+use Rattle.verifier.specs.declared.judges.Fault.{Fault as JudgeFault}
 use Rattle.verifier.specs.declared.judges.Question.{Question}
 use Rattle.verifier.specs.declared.judges.Reply.{Reply}
 use Rattle.verifier.specs.declared.judges.Said.{Said}
@@ -113,9 +114,9 @@ ActAllowed o m i x CutClose w = Unit {0}
 
 -- ---- the world after an event at machine i
 
-abbrev pub after_load : ℕ → Machine × Option Refusal → World → World
-after_load i (x, None) w = on_machine i (effect.loaded (latest (words x.ran))) w
-after_load i (x, Some k) w = w
+abbrev pub after_load : ℕ → Result Machine Refusal → World → World
+after_load i (Ok x) w = on_machine i (effect.loaded (latest (words x.ran))) w
+after_load i (Err k) w = w
 
 -- b: whether a bad program was loaded
 abbrev pub after_open : (b : Bool) (i : ℕ) → world.Thing → World → World
@@ -155,33 +156,30 @@ MachineEvents = (o : Setting) (m : Bool) (s : Sight) (i : ℕ) (a : Act) (w : Wo
 -- ---- the world after a word to judge j
 
 -- v where this was said, else w
-abbrev pub when_done : Said → World → World → World
-when_done said.Done v w = v
-when_done (said.Asks a q) v w = w
-when_done (said.Accepted n r f) v w = w
-when_done (said.Refused k) v w = w
-when_done said.NoMemory v w = w
+abbrev pub when_done : Result Said JudgeFault → World → World → World
+when_done (Ok said.Done) v w = v
+when_done (Ok (said.Asks a q)) v w = w
+when_done (Ok (said.Accepted x)) v w = w
+when_done (Err f) v w = w
 
-abbrev pub when_asks : Said → World → World → World
-when_asks said.Done v w = w
-when_asks (said.Asks a q) v w = v
-when_asks (said.Accepted n r f) v w = w
-when_asks (said.Refused k) v w = w
-when_asks said.NoMemory v w = w
+abbrev pub when_asks : Result Said JudgeFault → World → World → World
+when_asks (Ok said.Done) v w = w
+when_asks (Ok (said.Asks a q)) v w = v
+when_asks (Ok (said.Accepted x)) v w = w
+when_asks (Err f) v w = w
 
-abbrev pub when_accepts : Said → (Register → World) → World → World
-when_accepts said.Done v w = w
-when_accepts (said.Asks a q) v w = w
-when_accepts (said.Accepted n r f) v w = v r
-when_accepts (said.Refused k) v w = w
-when_accepts said.NoMemory v w = w
+abbrev pub when_accepts : Result Said JudgeFault → (Register → World) → World → World
+when_accepts (Ok said.Done) v w = w
+when_accepts (Ok (said.Asks a q)) v w = w
+when_accepts (Ok (said.Accepted x)) v w = v x.row
+when_accepts (Err f) v w = w
 
 -- a judge accepts, and has these questions left
 abbrev pub accepted_world : Setting → ℕ → Reply → List Question → World → Register → World
 accepted_world o j p qs w r = effect.having_accepted (effect.acceptance (question_of (drawn o) j (new_question p.chip p.«data»)) (words r)) (on_judge j (effect.with_questions (questions_of (drawn o) j qs)) w)
 
 -- d: the judge before; r: the judge after, and what it said
-abbrev pub after_word : Setting → (j : ℕ) (d : Seat) → Word → List Digest → Seat × Said → World → World
+abbrev pub after_word : Setting → (j : ℕ) (d : Seat) → Word → List Digest → Seat × Result Said JudgeFault → World → World
 after_word o j d (word.Ask a) ds r w = when_asks r.1 (on_judge j (effect.with_questions (asked j a w)) (effect.asking (effect.question j a w) w)) w
 after_word o j d (word.List n) ds r w = when_done r.1 (on_judge j (effect.with_list (verifier.latest ds)) w) w
 after_word o j d word.Good ds r w = w
@@ -190,20 +188,20 @@ after_word o j d (word.Ticks n) ds r w = on_judge j (effect.with_questions (ques
 after_word o j d (word.Answer p) ds r w = when_accepts r.1 (accepted_world o j p r.0.questions w) w
 
 -- what a judge asks with was just drawn; a signature that it accepts is one that outsiders can have
-abbrev pub WordAllowed : Setting → Word → Said → World → Type 0
-WordAllowed o (word.Ask a) x w = (b : ℕ) (q : Data) → x ≡ said.Asks b q → o.names q.bytes ≡ Some w.next
+abbrev pub WordAllowed : Setting → Word → Result Said JudgeFault → World → Type 0
+WordAllowed o (word.Ask a) x w = (b : ℕ) (q : Data) → x ≡ Ok (said.Asks b q) → o.names q.bytes ≡ Some w.next
 WordAllowed o (word.List n) x w = Unit {0}
 WordAllowed o word.Good x w = Unit {0}
 WordAllowed o (word.Chip a) x w = Unit {0}
 WordAllowed o (word.Ticks n) x w = Unit {0}
-WordAllowed o (word.Answer p) x w = (n : ℕ) (r : Register) (f : Flags) → x ≡ said.Accepted n r f → Derives w.heard (term.Sign p.chip (effect.statement (effect.honest (drawn o p.«data».bytes)) (words p.signature.register)))
+WordAllowed o (word.Answer p) x w = (a : Acceptance) → x ≡ Ok (said.Accepted a) → Derives w.heard (term.Sign p.chip (effect.statement (effect.honest (drawn o p.«data».bytes)) (words p.signature.register)))
 
 -- every word to a judge, by the office's line or by the net
 abbrev pub OfficeWords : Type 0
 OfficeWords = (o : Setting) (s : Sight) (j : ℕ) (x : Word) (ds : List Digest) (draw : Option Data) (w : World) → j < length s.seats → FleetStands o s w → WordAllowed o x (office_of true (seat_at s j) x ds draw).1 w → Goes o (judged j s x (office_of true (seat_at s j) x ds draw)).0 w (after_word o j (seat_at s j) x ds (office_of true (seat_at s j) x ds draw) w)
 
 -- from the net only answers do anything
-abbrev pub after_net : Setting → (j : ℕ) (d : Seat) → Word → Seat × Said → World → World
+abbrev pub after_net : Setting → (j : ℕ) (d : Seat) → Word → Seat × Result Said JudgeFault → World → World
 after_net o j d (word.Ask a) r w = w
 after_net o j d (word.List n) r w = w
 after_net o j d word.Good r w = w

@@ -6,30 +6,52 @@ pub mod makes;
 pub mod plays;
 pub mod searches;
 
+ghost use Rattle.std.specs.Prelude.{◌≡◌};
+ghost use Rattle.fleet.specs.Faults.{fault_of};
+ghost use Rattle.fleet.specs.declared.fleets.Fault.TheVariants.{Refused, NoMemory};
+
 use boot::disks::{Disk, File, Name};
 use boot::machines::Machine;
 use device::chips::{Answer, Command, Signature, Target};
 use device::digests::{Data, Digest};
 use device::refusals::Refusal;
 use device::registers::Register;
-use verifier::judges::{Flags, Judge, Said, Word};
+use std::alloc::{AllocError, AllocFailed};
+use std::marker::Model;
+use verifier::judges;
+use verifier::judges::{Acceptance, Judge, Said, Word};
 
-/// Machines and judges, and what is true of them that none of them knows.
+/// Machines and judges, and what is around them.
 #[derive(Drop)]
 pub struct Fleet {
+    /// By their numbers: chip i is that of machine i.
+    machines: Vec<Machine>,
+    judges: Vec<Judge>,
+    outside: Outside,
+}
+
+/// What is true of the machines and judges that none of them knows.
+#[derive(Drop)]
+struct Outside {
     /// The first program, burnt into every machine.
     first: Digest,
     /// The bad programs; all others are good.
     bad: Vec<Digest>,
-    /// By their numbers: chip i is that of machine i.
-    machines: Vec<Machine>,
-    judges: Vec<Judge>,
     /// What outsiders wrote; any machine is started from it.
     disk: Disk,
     /// What outsiders have heard of what was drawn: questions, and what bad programs told them. The latest first.
     heard: Vec<Data>,
     /// Every signature that was given out, with what had been loaded then. The latest first.
     shown: Vec<Shown>,
+}
+
+impl Model for Fleet {
+    ghost use Rattle.std.specs.Prelude.{vec_items};
+    ghost use Rattle.fleet.specs.Sights.{Sight};
+
+    ghost Value = { Sight };
+
+    ghost view = { λ f. record { first = f.outside.first; bad = vec_items f.outside.bad; machines = vec_items f.machines; seats = vec_items f.judges; disk = f.outside.disk; heard = vec_items f.outside.heard; shown = vec_items f.outside.shown } };
 }
 
 #[derive(Clone, Copy)]
@@ -76,17 +98,57 @@ pub enum Event {
 #[derive(Clone, Copy)]
 pub enum Report {
     Done,
+    /// What the chip answered.
+    Answered(Answer),
+    /// What the judge said.
+    Told(Said),
+    /// The judge accepted; and what had really been loaded when the chip signed.
+    Accepted(Acceptance, Option<Register>),
+}
+
+/// Why an event came to nothing.
+#[derive(Clone, Copy, Debug, PartialEq, Eq)]
+pub enum Fault {
+    /// The loader, the chip or the judge refused.
     Refused(Refusal),
     /// A good program does not do that.
     Unwilling,
     /// There is no such machine or judge.
     Nobody,
     NoMemory,
-    /// What the chip answered.
-    Answered(Answer),
-    /// What the judge said.
-    Told(Said),
-    /// The judge accepted: the list's number, the row, which of its digests the office knows, and what had really been
-    /// loaded when the chip signed.
-    Accepted(u16, Register, Flags, Option<Register>),
+}
+
+impl From<Refusal> for Fault {
+    ghost from_gives = { λ refusal fault. fault ≡ Refused refusal };
+
+    fn from(refusal: Refusal) -> Fault {
+        Fault::Refused(refusal)
+    }
+}
+
+impl From<judges::Fault> for Fault {
+    ghost from_gives = { λ fault own. own ≡ fault_of fault };
+
+    fn from(fault: judges::Fault) -> Fault {
+        match fault {
+            judges::Fault::Refused(why) => Fault::Refused(why),
+            judges::Fault::NoMemory => Fault::NoMemory,
+        }
+    }
+}
+
+impl From<AllocError> for Fault {
+    ghost from_gives = { λ _ fault. fault ≡ NoMemory };
+
+    fn from(_error: AllocError) -> Fault {
+        Fault::NoMemory
+    }
+}
+
+impl<T: Drop> From<AllocFailed<T>> for Fault {
+    ghost from_gives = { λ _ fault. fault ≡ NoMemory };
+
+    fn from(failed: AllocFailed<T>) -> Fault {
+        Fault::from(AllocError::from(failed))
+    }
 }

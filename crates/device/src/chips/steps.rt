@@ -1,8 +1,8 @@
-//! The chip's steps, by value: each gives the new chip and the answer.
+//! The chip's steps, by value: each gives the new chip and what it answers, or why it refuses; a refusal changes nothing.
 
 ghost use Rattle.std.specs.Prelude.{◌≡◌};
-ghost use Rattle.device.specs.Commands.{new_chip, put_of, signed, counted, closed, opened, read_of, switched, answered};
-ghost use Rattle.device.specs.Worlds.{Steps, Refuses, Switches};
+ghost use Rattle.device.specs.Commands.{new_chip, put_of, signature_of, counted, closed, opened, read_of, switched, answered};
+ghost use Rattle.device.specs.Worlds.{Steps, Switches};
 
 use crate::chips::{Answer, Chip, Command, Content, Seal, Signature, Target, Thing};
 use crate::digests::{Data, Digest};
@@ -42,53 +42,42 @@ impl Chip {
         ensures exact { result ≡ switched self }
         ensures steps { Switches self result }
     {
-        self.emptied()
-    }
-
-    fn emptied(self) -> Chip
-        ensures { result ≡ switched self }
-    {
         let register = Register::empty();
         Chip { register, ..self }
     }
 
-    pub fn put(self, digest: Digest) -> (Chip, Answer)
+    pub fn put(self, digest: Digest) -> Result<Chip, Refusal>
         ensures { result ≡ put_of self digest }
     {
-        let Some(register) = self.register.with(digest) else {
-            return (self, Answer::Refused(Refusal::Full));
-        };
-        (Chip { register, ..self }, Answer::Done)
+        let register = self.register.with(digest).ok_or(Refusal::Full)?;
+        Ok(Chip { register, ..self })
     }
 
-    pub fn sign(self, data: Data) -> (Chip, Answer)
-        ensures { result ≡ signed self «data» }
+    pub fn sign(self, data: Data) -> Signature
+        ensures { result ≡ signature_of self «data» }
     {
-        (
-            self,
-            Answer::Signed(Signature {
-                chip: self.id,
-                data,
-                register: self.register,
-            }),
-        )
+        Signature {
+            chip: self.id,
+            data,
+            register: self.register,
+        }
     }
 
-    pub fn count(self) -> (Chip, Answer)
+    pub fn count(self) -> Result<Chip, Refusal>
         ensures { result ≡ counted self }
     {
         if self.counter >= LIMIT {
-            return (self, Answer::Refused(Refusal::UsedUp));
+            return Err(Refusal::UsedUp);
         }
         let counter = self.counter + 1;
-        (Chip { counter, ..self }, Answer::Counter(counter))
+        Ok(Chip { counter, ..self })
     }
 
-    pub fn close(self, target: Target, data: Data) -> (Chip, Answer)
+    pub fn close(self, target: Target, data: Data) -> Result<(Chip, Thing), Refusal>
         ensures { result ≡ closed self target «data» }
     {
         if self.number >= LIMIT {
-            return (self, Answer::Refused(Refusal::UsedUp));
+            return Err(Refusal::UsedUp);
         }
         let content = Content {
             number: self.number,
@@ -100,57 +89,64 @@ impl Chip {
             chip: self.id,
             content,
         };
-        (
-            Chip {
-                number: self.number + 1,
-                ..self
-            },
-            Answer::Closed(Thing { content, seal }),
-        )
+        let chip = Chip {
+            number: self.number + 1,
+            ..self
+        };
+        Ok((chip, Thing { content, seal }))
     }
 
     /// The seal first, then the row, then the counter: the first that does not fit is told.
-    pub fn open(self, thing: Thing) -> (Chip, Answer)
+    pub fn open(self, thing: Thing) -> Result<Data, Refusal>
         ensures { result ≡ opened self thing }
     {
         if !thing.sealed_by(self.id) {
-            return (self, Answer::Refused(Refusal::BadSeal));
+            return Err(Refusal::BadSeal);
         }
         if !thing.content.target.is_row(self.register) {
-            return (self, Answer::Refused(Refusal::OtherRow));
+            return Err(Refusal::OtherRow);
         }
         if thing.content.counter != self.counter {
-            return (self, Answer::Refused(Refusal::OtherCounter));
+            return Err(Refusal::OtherCounter);
         }
-        (self, Answer::Opened(thing.content.data))
+        Ok(thing.content.data)
     }
 
-    pub fn read(self) -> (Chip, Answer)
+    /// The counter and the row of now.
+    pub fn read(self) -> (u64, Register)
         ensures { result ≡ read_of self }
     {
-        (self, Answer::Now(self.counter, self.register))
+        (self.counter, self.register)
     }
 
     /// Whatever a program gives the chip.
-    pub fn answer(self, command: Command) -> (Chip, Answer)
+    pub fn answer(self, command: Command) -> Result<(Chip, Answer), Refusal>
         ensures exact { result ≡ answered self command }
         ensures steps { Steps self command result }
-        ensures refuses { Refuses self result }
     {
         self.reply(command)
     }
 
-    fn reply(self, command: Command) -> (Chip, Answer)
+    fn reply(self, command: Command) -> Result<(Chip, Answer), Refusal>
         ensures { result ≡ answered self command }
     {
         match command {
-            Command::Put(digest) => self.put(digest),
-            Command::Sign(data) => self.sign(data),
-            Command::Count => self.count(),
-            Command::Close(target, data) => self.close(target, data),
-            Command::Open(thing) => self.open(thing),
-            Command::Read => self.read(),
-            Command::SwitchedOn => (self, Answer::Refused(Refusal::Malformed)),
+            Command::Put(digest) => Ok((self.put(digest)?, Answer::Done)),
+            Command::Sign(data) => Ok((self, Answer::Signed(self.sign(data)))),
+            Command::Count => {
+                let chip = self.count()?;
+                Ok((chip, Answer::Counter(chip.counter)))
+            }
+            Command::Close(target, data) => {
+                let (chip, thing) = self.close(target, data)?;
+                Ok((chip, Answer::Closed(thing)))
+            }
+            Command::Open(thing) => Ok((self, Answer::Opened(self.open(thing)?))),
+            Command::Read => {
+                let (counter, register) = self.read();
+                Ok((self, Answer::Now(counter, register)))
+            }
+            Command::SwitchedOn => Err(Refusal::Malformed),
         }
     }
 }

@@ -1,7 +1,8 @@
 //! Rows: the empty one, one more digest, and whether two are the same.
 
-ghost use Rattle.std.specs.Prelude.{◌≡◌, ◌≤◌, [], length, Decides};
-ghost use Rattle.std.specs.List.{slice_get};
+ghost use Rattle.std.specs.Prelude.{◌≡◌, Decides};
+ghost use Rattle.std.specs.Cmp.Rules.{comparing};
+ghost use Rattle.std.proofs.Common.{rules};
 ghost use Rattle.device.specs.Rows.{row, empty_register, pushed, same_row};
 
 use crate::digests::Digest;
@@ -18,17 +19,17 @@ impl Register {
     }
 
     /// How many digests there are.
-    pub fn len(self) -> usize
-        ensures { result ≡ self.len }
+    pub fn len(&self) -> usize
+        ensures { result ≡ self.now.len }
     {
         self.len
     }
 
-    /// The digests, the oldest first; those past the row's end mean nothing.
-    pub fn digests(self) -> [Digest; 16]
-        ensures { result ≡ self.digests }
+    /// The digests, the oldest first.
+    pub fn as_slice(&self) -> &[Digest]
+        ensures { result.now ≡ row self.now }
     {
-        self.digests
+        &self.digests[0..self.len]
     }
 
     /// One digest more, or nothing where the register is full.
@@ -45,26 +46,18 @@ impl Register {
             len: self.len + 1,
         })
     }
+}
 
-    /// Whether the two rows are the same.
-    pub fn same(self, other: Register) -> bool
-        ensures { result ≡ same_row self other }
-    {
-        let mine = self.digests;
-        let n = self.len;
-        let theirs = other.digests;
-        let m = other.len;
-        mine[0..n] == theirs[0..m]
-    }
+/// Registers are the same where their rows are: the places past a row's end mean nothing, so no derive serves.
+impl PartialEq for Register {
+    ghost eq = { same_row };
 
-    /// The digest at this place, the oldest at 0.
-    pub fn digest(self, i: usize) -> Option<Digest>
-        ensures { result ≡ slice_get (row self) i }
+    ghost laws = { Prim.search (comparing, rules) };
+
+    fn eq(&self, other: &Register) -> bool
+        ensures computes { result ≡ same_row self.now other.now }
+        ensures decides { Decides result (row self.now ≡ row other.now) }
     {
-        if i >= self.len {
-            return None;
-        }
-        let digests = self.digests;
-        Some(digests[i])
+        self.as_slice() == other.as_slice()
     }
 }

@@ -1,10 +1,10 @@
 //! What a judge is told, and what is reported of what it says.
 
-ghost use Rattle.std.specs.Prelude.{◌≡◌, []};
-ghost use Rattle.fleet.specs.Sights.{sight, found, played};
+ghost use Rattle.std.specs.Prelude.{◌≡◌, ◌<◌, [], vec_items, vec_len, vec_capacity};
+ghost use Rattle.fleet.specs.Sights.{found, played, heard_of, report_of};
 ghost use Rattle.fleet.specs.declared.fleets.Event.TheVariants as kinds;
 
-use crate::fleets::{Fleet, Report};
+use crate::fleets::{Fault, Fleet, Outside, Report};
 use device::digests::{Data, Digest};
 use std::alloc::Global;
 use verifier::judges::{Said, Word};
@@ -18,55 +18,53 @@ impl Fleet {
         word: Word,
         digests: &[Digest],
         draw: Option<Data>,
-    ) -> Report
-        ensures { (sight self.new, result) ≡ played (found result) (sight self.old) (kinds.Office j word draw) digests.now }
+    ) -> Result<Report, Fault>
+        ensures { (self.new, result) ≡ played (found result) self.old (kinds.Office j word draw) digests.now }
     {
-        if j >= self.judges.len() {
-            return Report::Nobody;
-        }
-        if self.heard.reserve(1).is_err() {
-            return Report::NoMemory;
-        }
-        match self.judges[j].office(heap, word, digests, draw) {
-            Said::Asks(chip, data) => match self.heard.insert(0, data) {
-                Ok(()) => Report::Told(Said::Asks(chip, data)),
-                Err(_) => Report::NoMemory,
-            },
-            Said::Accepted(number, row, flags) => {
-                Report::Accepted(number, row, flags, self.ran_for(word))
-            }
-            Said::Done => Report::Told(Said::Done),
-            Said::Refused(why) => Report::Told(Said::Refused(why)),
-            Said::NoMemory => Report::NoMemory,
-        }
+        let judge = self.judges.get_mut(j).ok_or(Fault::Nobody)?;
+        self.outside.heard.reserve(1)?;
+        let said = judge.office(heap, word, digests, draw)?;
+        hear(&mut self.outside.heard, said);
+        Ok(self.outside.report(word, said))
     }
 
     /// A word by the net; no judge asks for it.
-    pub(crate) fn net(&mut self, j: usize, word: Word) -> Report
-        ensures { (sight self.new, result) ≡ played (found result) (sight self.old) (kinds.Net j word) [] }
+    pub(crate) fn net(&mut self, j: usize, word: Word) -> Result<Report, Fault>
+        ensures { (self.new, result) ≡ played (found result) self.old (kinds.Net j word) [] }
     {
-        if j >= self.judges.len() {
-            return Report::Nobody;
-        }
-        match self.judges[j].net(word) {
-            Said::Accepted(number, row, flags) => {
-                Report::Accepted(number, row, flags, self.ran_for(word))
-            }
-            Said::Done => Report::Told(Said::Done),
-            Said::Asks(chip, data) => Report::Told(Said::Asks(chip, data)),
-            Said::Refused(why) => Report::Told(Said::Refused(why)),
-            Said::NoMemory => Report::Told(Said::NoMemory),
-        }
+        let judge = self.judges.get_mut(j).ok_or(Fault::Nobody)?;
+        let said = judge.net(word)?;
+        Ok(self.outside.report(word, said))
     }
 
     /// The judge loses all that it was given.
-    pub(crate) fn fall(&mut self, j: usize) -> Report
-        ensures { (sight self.new, result) ≡ played (found result) (sight self.old) (kinds.Fall j) [] }
+    pub(crate) fn fall(&mut self, j: usize) -> Result<Report, Fault>
+        ensures { (self.new, result) ≡ played (found result) self.old (kinds.Fall j) [] }
     {
-        if j >= self.judges.len() {
-            return Report::Nobody;
+        let judge = self.judges.get_mut(j).ok_or(Fault::Nobody)?;
+        judge.fall();
+        Ok(Report::Done)
+    }
+}
+
+impl Outside {
+    /// An acceptance is reported with what really ran.
+    fn report(&self, word: Word, said: Said) -> Report
+        ensures { result ≡ report_of (vec_items self.now.shown) word said }
+    {
+        match said {
+            Said::Accepted(acceptance) => Report::Accepted(acceptance, self.ran_for(word)),
+            Said::Done | Said::Asks(..) => Report::Told(said),
         }
-        self.judges[j].fall();
-        Report::Done
+    }
+}
+
+/// Outsiders hear what a judge asks; there is room for it.
+fn hear(heard: &mut Vec<Data>, said: Said)
+    requires { vec_len heard.old < vec_capacity heard.old }
+    ensures { vec_items heard.new ≡ heard_of said (vec_items heard.old) }
+{
+    if let Said::Asks(_, data) = said {
+        heard.insert(0, data).unwrap();
     }
 }

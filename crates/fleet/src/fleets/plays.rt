@@ -2,26 +2,26 @@
 
 ghost use Rattle.std.specs.Prelude.{◌≡◌, []};
 ghost use Rattle.fleet.specs.Runs.{PlaySteps, Tells};
-ghost use Rattle.fleet.specs.Sights.{sight, found, played};
+ghost use Rattle.fleet.specs.Sights.{found, played};
 ghost use Rattle.fleet.specs.declared.fleets.Event.TheVariants as kinds;
 
-use crate::fleets::{Event, Fleet, Report};
+use crate::fleets::{Event, Fault, Fleet, Report};
 use boot::disks::{File, Name};
 use device::digests::Digest;
 use std::alloc::Global;
 
 impl Fleet {
     /// Plays one event; the digests are those that come beside a word to a judge.
-    pub fn play(&mut self, heap: Global, event: Event, digests: &[Digest]) -> Report
-        ensures exact { (sight self.new, result) ≡ played (found result) (sight self.old) event digests.now }
-        ensures steps { PlaySteps (sight self.old) event digests.now (sight self.new, result) }
-        ensures tells { Tells (sight self.old) event digests.now (sight self.new, result) }
+    pub fn play(&mut self, heap: Global, event: Event, digests: &[Digest]) -> Result<Report, Fault>
+        ensures exact { (self.new, result) ≡ played (found result) self.old event digests.now }
+        ensures steps { PlaySteps self.old event digests.now (self.new, result) }
+        ensures tells { Tells self.old event digests.now (self.new, result) }
     {
         self.answer(heap, event, digests)
     }
 
-    fn answer(&mut self, heap: Global, event: Event, digests: &[Digest]) -> Report
-        ensures { (sight self.new, result) ≡ played (found result) (sight self.old) event digests.now }
+    fn answer(&mut self, heap: Global, event: Event, digests: &[Digest]) -> Result<Report, Fault>
+        ensures { (self.new, result) ≡ played (found result) self.old event digests.now }
     {
         match event {
             Event::At(i, act) => self.at(i, act),
@@ -33,20 +33,17 @@ impl Fleet {
         }
     }
 
-    fn write(&mut self, name: Name, file: File, swapped: File) -> Report
-        ensures { (sight self.new, result) ≡ played (found result) (sight self.old) (kinds.Write name file swapped) [] }
+    fn write(&mut self, name: Name, file: File, swapped: File) -> Result<Report, Fault>
+        ensures { (self.new, result) ≡ played (found result) self.old (kinds.Write name file swapped) [] }
     {
-        if self.disk.add(name, file, swapped) {
-            Report::Done
-        } else {
-            Report::NoMemory
-        }
+        self.outside.disk.add(name, file, swapped)?;
+        Ok(Report::Done)
     }
 
-    fn wipe(&mut self) -> Report
-        ensures { (sight self.new, result) ≡ played (found result) (sight self.old) kinds.Wipe [] }
+    fn wipe(&mut self) -> Result<Report, Fault>
+        ensures { (self.new, result) ≡ played (found result) self.old kinds.Wipe [] }
     {
-        self.disk.entries.clear();
-        Report::Done
+        self.outside.disk.clear();
+        Ok(Report::Done)
     }
 }

@@ -1,5 +1,5 @@
 use Rattle.device.proofs.chips.Chip.answer.Goals as goal
-use Rattle.device.proofs.Worlds.{stepped, refuses}
+use Rattle.device.proofs.Worlds.{stepped}
 
-pub returns : goal.returns
-returns c = record { exact = c.reply.ensures; steps = stepped c.args.self c.args.command _ c.reply.ensures; refuses = refuses c.args.self c.args.command _ c.reply.ensures }
+pub returns-clause-steps : goal.returns-clause-steps
+returns-clause-steps c = stepped c.args.self c.args.command _ c.reply.ensures
