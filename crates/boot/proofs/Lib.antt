@@ -1,4 +1,5 @@
 pub mod Lists
 pub mod Loads
+pub mod Names
 pub mod Starts
 pub mod Worlds

@@ -46,7 +46,7 @@ pub struct Entry {
     pub seen: Seen,
 }
 
-/// Its entries, the oldest first.
+/// The entries, the oldest first.
 #[derive(Drop)]
 pub struct Disk {
     entries: Vec<Entry>,

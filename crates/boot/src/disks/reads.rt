@@ -90,12 +90,13 @@ impl Disk {
         ensures { (self.new, result) ≡ read_of as_list self.old name }
     {
         let i = self.find(name)?;
-        let entry = self.entries[i];
+        let entry = &mut self.entries[i];
         if as_list && entry.seen == Seen::Listed {
             return None;
         }
-        self.entries[i].seen = entry.seen.again(as_list);
-        Some(entry.shown())
+        let file = entry.shown();
+        entry.seen = entry.seen.again(as_list);
+        Some(file)
     }
 
     /// The program of this name.

@@ -30,13 +30,13 @@ impl Machine {
         self.follow_lists(disk, list)
     }
 
-    /// The programs of this start list, then those of the further list that it names, and so on. Each list is read once,
-    /// so there are no more turns than files.
+    /// The programs of this start list, then those of the further list that it names, and so on.
     fn follow_lists(&mut self, disk: &mut Disk, list: Name) -> Result<(), Refusal>
         ensures { (disk.new, (self.new, result)) ≡ follow (length disk.old) disk.old self.old list }
     {
         let mut name = list;
-        for turn in 0..disk.len() {
+        // A count ends the loop: each list is read once, so there are no more turns than files.
+        for _turn in 0..disk.len() {
             let batch = disk.batch(name).ok_or(Refusal::NoProgram)?;
             *self = self.load_all(batch.programs).ok_or(Refusal::Full)?;
             let Some(further) = batch.further else {
@@ -55,6 +55,7 @@ impl Machine {
         self.fetch(disk, name)
     }
 
+    // Apart from `ask`, whose steps all follow from what is ensured here.
     fn fetch(self, disk: &mut Disk, name: Name) -> Result<Machine, Refusal>
         ensures { (disk.new, result) ≡ ask_of self disk.old name }
     {

@@ -1,0 +1,8 @@
+-- What == says of names: whether they are the same.
+use Rattle.std.proofs.Common.{◌≡◌, Decides, ap}
+use Rattle.std.proofs.lemmas.Slice.Eq.{bytes_eq-Decides}
+use Rattle.boot.specs.declared.disks.Name.{Name}
+use Rattle.boot.specs.contracts.disks.NamePartialEq.TheImpl as name
+
+pub name_eq_decides : (m n : Name) → Decides (name.ghosts.eq m n) (m ≡ n)
+name_eq_decides m n = let h = bytes_eq-Decides m.bytes n.bytes in ((λ t. λ i. record { bytes = h.0 t i }), λ p. h.1 (ap (λ x. x.bytes) p))
