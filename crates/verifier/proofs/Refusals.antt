@@ -1,12 +1,11 @@
 -- A refusal, and want of memory, come with the judge as it was.
-use Rattle.std.proofs.Common.{◌≡◌, ℕ, Bool, true, false, cond, eqb, ltb, List, length, is_some, Some, None, Option, Ok, Err, Result, sym, refl, subst, arith}
+use Rattle.std.proofs.Common.{◌≡◌, ℕ, Bool, true, false, cond, eqb, ltb, List, length, is_some, Some, None, Option, Ok, Result, sym, refl, subst, arith}
 use Rattle.device.specs.declared.digests.Data.{Data}
 use Rattle.device.specs.declared.digests.Digest.{Digest}
 use Rattle.device.specs.declared.refusals.Refusal.{Refusal}
 use Rattle.device.specs.declared.registers.Register.{Register}
 use Rattle.verifier.specs.declared.judges.List as list
 use Rattle.verifier.specs.declared.judges.Fault.{Fault}
-use Rattle.verifier.specs.declared.judges.Fault.TheVariants.{Refused, NoMemory}
 use Rattle.verifier.specs.declared.judges.Reply.{Reply}
 use Rattle.verifier.specs.declared.judges.Word.{Word}
 use Rattle.verifier.specs.declared.judges.Word.TheVariants as word

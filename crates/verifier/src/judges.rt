@@ -98,7 +98,7 @@ pub enum Said {
 }
 
 /// Why a word changes nothing.
-#[derive(Clone, Copy)]
+#[derive(Clone, Copy, Debug, PartialEq, Eq)]
 pub enum Fault {
     Refused(Refusal),
     NoMemory,

@@ -1,5 +1,5 @@
 use Rattle.verifier.proofs.judges.Judge.fall.Goals as goal
 use Rattle.verifier.proofs.Worlds.{falls}
 
-pub returns : goal.returns
-returns c = record { exact = c.forget.ensures; steps = falls c.args.self.now _ c.forget.ensures }
+pub returns-clause-steps : goal.returns-clause-steps
+returns-clause-steps c = falls c.args.self.now _ c.forget.ensures

@@ -3,7 +3,11 @@ use Rattle.verifier.specs.Seats.{found}
 use Rattle.verifier.proofs.Worlds.{office_steps}
 use Rattle.verifier.proofs.Refusals.{office_idle}
 
-pub returns : goal.returns
-returns c =
-    let idle = office_idle (found c.hear.result) c.args.self.now c.args.word c.args.digests.now c.args.draw _ c.hear.ensures in
-    record { exact = c.hear.ensures; steps = office_steps (found c.hear.result) c.args.self.now c.args.word c.args.digests.now c.args.draw _ c.hear.ensures; refuses = idle.0; lacks = idle.1 }
+pub returns-clause-steps : goal.returns-clause-steps
+returns-clause-steps c = office_steps (found c.hear.result) c.args.self.now c.args.word c.args.digests.now c.args.draw _ c.hear.ensures
+
+pub returns-clause-refuses : goal.returns-clause-refuses
+returns-clause-refuses c = (office_idle (found c.hear.result) c.args.self.now c.args.word c.args.digests.now c.args.draw _ c.hear.ensures).0
+
+pub returns-clause-lacks : goal.returns-clause-lacks
+returns-clause-lacks c = (office_idle (found c.hear.result) c.args.self.now c.args.word c.args.digests.now c.args.draw _ c.hear.ensures).1

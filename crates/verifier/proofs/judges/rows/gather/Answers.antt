@@ -1,4 +1,4 @@
-use Rattle.std.proofs.Common.{sym, ◌∙◌, arith, rules}
+use Rattle.std.proofs.Common.{sym, ◌∙◌}
 use Rattle.verifier.proofs.judges.rows.gather.Goals as goal
 use Rattle.verifier.proofs.Rows.{gather_more, gather_full, gather_end}
 

@@ -1,4 +1,4 @@
-use Rattle.std.proofs.Common.{Bool, eqb, ◌&&◌, ◌∙◌, ap, rules, tests}
+use Rattle.std.proofs.Common.{Bool, eqb, ◌&&◌, ◌∙◌, rules, tests}
 use Rattle.std.specs.Str.{bytes_eq}
 use Rattle.std.proofs.lemmas.Iterator.{YieldsList-from_slice}
 use Rattle.std.proofs.lemmas.Iterator.Adapters.{position_from-zero}
