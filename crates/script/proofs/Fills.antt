@@ -1,6 +1,7 @@
 -- The steps of the loops that read a number, and the words of a line.
-use Rattle.std.proofs.Common.{◌≡◌, ℕ, ◌+◌, ◌<◌, ◌≤◌, cond, List, [], ◌∷◌, ◌++◌, length, get_or, drop, Ok, Err, Option, Result, sym, refl, ap, ◌∙◌, Bor}
+use Rattle.std.proofs.Common.{◌≡◌, ℕ, ◌+◌, ◌<◌, ◌≤◌, false, cond, eqb, ok_or, IfOk, Some, None, arith, List, [], ◌∷◌, ◌++◌, length, get_or, drop, Ok, Err, Option, Result, sym, refl, ap, ◌∙◌, Bor}
 use Rattle.std.proofs.lemmas.List.{at_drop_more, at_drop_all}
+use Rattle.std.proofs.lemmas.Bool.Decides.{nat_tests}
 use Rattle.script.specs.declared.faults.Fault.{Fault}
 use Rattle.script.specs.declared.faults.Fault.TheVariants.{Unknown, Shape, TooLong, NoNumber, TooMany, NoFleet, NotKept, NoMemory}
 use Rattle.script.specs.declared.lines.Line.{Line}
@@ -8,24 +9,38 @@ use Rattle.script.specs.declared.lines.Part.{Part}
 use Rattle.script.specs.declared.labels.Label.{Label}
 use Rattle.script.specs.Labels.{label_of, labels_of, met}
 use Rattle.script.specs.Labels as labels
-use Rattle.script.specs.Numbers.{next_of, go_on, digits_of}
+use Rattle.script.specs.Numbers.{next_of, go_on, digits_of, number_of}
+use Rattle.script.proofs.Tries.{and_on, tried}
 use Rattle.script.specs.Forms.{Words}
 use Rattle.script.specs.Lines.{then_on, put_of, filled}
 
-digits_here : (limit n b : ℕ) (bs : List ℕ) → digits_of limit n (b ∷ bs) ≡ go_on (next_of limit n b) (λ m. digits_of limit m bs)
+digits_tried : (limit n : ℕ) (bs : List ℕ) → ok_or (tried (next_of limit) n bs) NoNumber ≡ digits_of limit n bs
 unfolding digits_of
-digits_here limit n b bs = refl
+digits_tried limit n [] = refl
+digits_tried limit n (b ∷ bs) = each (next_of limit n b) (λ m. digits_tried limit m bs)
+  where
+    each : (o : Option ℕ) → ((m : ℕ) → ok_or (tried (next_of limit) m bs) NoNumber ≡ digits_of limit m bs) → ok_or (and_on o (λ m. tried (next_of limit) m bs)) NoNumber ≡ go_on o (λ m. digits_of limit m bs)
+    each None more = refl
+    each (Some m) more = more m
 
-digits_nil : (limit n : ℕ) → digits_of limit n [] ≡ Ok n
-unfolding digits_of
-digits_nil limit n = refl
+-- what the digits come to is the number, and no more than the limit
+pub number_is : (limit : ℕ) (bs : List ℕ) (o : Option ℕ) (r : Result ℕ Fault) → false ≡ eqb (length bs) 0 → o ≡ tried (next_of limit) 0 bs → r ≡ ok_or o NoNumber → r ≡ number_of limit bs
+number_is limit bs o r e h k = k ∙ ap (λ q. ok_or q NoNumber) h ∙ digits_tried limit 0 bs ∙ ap (λ b. cond b (Err NoNumber) (digits_of limit 0 bs)) e
 
--- what the next digit comes to is what is left comes to
-pub digits_next : (limit n : ℕ) (bs : List ℕ) (i d : ℕ) (r : Option ℕ) (t : Result ℕ Fault) → i < length bs → r ≡ next_of limit n (get_or bs i d) → digits_of limit n (drop i bs) ≡ t → go_on r (λ m. digits_of limit m (drop (i + 1) bs)) ≡ t
-digits_next limit n bs i d r t l e inv = ap (λ q. go_on q (λ m. digits_of limit m (drop (i + 1) bs))) e ∙ sym (digits_here limit n (get_or bs i d) (drop (i + 1) bs)) ∙ sym (at_drop_more (digits_of limit n) bs i d l) ∙ inv
+next_within : (limit n b m : ℕ) → Some m ≡ next_of limit n b → m ≤ limit
+next_within limit n b m e = grind (arith, nat_tests)
 
-pub digits_all : (limit n : ℕ) (bs : List ℕ) (i : ℕ) (t : Result ℕ Fault) → length bs ≤ i → digits_of limit n (drop i bs) ≡ t → Ok n ≡ t
-digits_all limit n bs i t l inv = sym (digits_nil limit n) ∙ sym (at_drop_all (digits_of limit n) bs i l) ∙ inv
+tried_within : (limit n : ℕ) (bs : List ℕ) (m : ℕ) → n ≤ limit → Some m ≡ tried (next_of limit) n bs → m ≤ limit
+tried_within limit n [] m l e = let same : m ≡ n = cc in omega arith
+tried_within limit n (b ∷ bs) m l e = each (next_of limit n b) refl e (λ k h i. tried_within limit k bs m h i)
+  where
+    each : (o : Option ℕ) → o ≡ next_of limit n b → Some m ≡ and_on o (λ k. tried (next_of limit) k bs) → ((k : ℕ) → k ≤ limit → Some m ≡ tried (next_of limit) k bs → m ≤ limit) → m ≤ limit
+    each None is i more = cc
+    each (Some k) is i more = more k (next_within limit n b k is) i
+
+pub number_within : (limit : ℕ) (bs : List ℕ) (o : Option ℕ) (r : Result ℕ Fault) → o ≡ tried (next_of limit) 0 bs → r ≡ ok_or o NoNumber → IfOk r (λ n. n ≤ limit)
+number_within limit bs None r h k = rw k tt
+number_within limit bs (Some m) r h k = rw k (tried_within limit 0 bs m (omega arith) h)
 
 filled_here : (l : Line) (p : Part) (ps : List Part) (w : Bor (List ℕ)) (ws : Words) → filled l (p ∷ ps) (w ∷ ws) ≡ then_on (put_of l p w.now) (λ m. filled m ps ws)
 unfolding filled

@@ -1,4 +1,5 @@
 pub mod Looks
+pub mod Tries
 mod Tests
 mod Fills
 mod Shapes

@@ -23,9 +23,6 @@ pub word_is : (ws : Words) (i : ℕ) (d : Bor (List ℕ)) → i < length ws → 
 unfolding word_at
 word_is ws i d l = sym (get_or-map (λ w. w.now) ws i d [] l)
 
-pub number_is : (limit : ℕ) (bs ws : List ℕ) (t : Result ℕ Fault) → bs ≡ ws → false ≡ eqb (length bs) 0 → t ≡ digits_of limit 0 bs → t ≡ number_of limit ws
-number_is limit bs ws t e b h = h ∙ ap (λ q. cond q (Err NoNumber) (digits_of limit 0 bs)) b ∙ ap (number_of limit) e
-
 pub suffix_is : (k : Key) (ws : Words) (d : Bor (List ℕ)) (t : List ℕ) (b : Bool) → 2 ≤ length ws → t ≡ key_text k → b ≡ same_text (get_or ws (length ws - 2) d).now t → cond b (Some (take (length ws - 2) ws)) None ≡ ends_with k ws
 suffix_is k ws d t b l e h =
     let two : false ≡ ltb (length ws) 2 = grind (arith, nat_tests) in

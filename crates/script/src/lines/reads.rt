@@ -25,8 +25,8 @@ impl Line {
             second: 0,
             list: 0,
             after: false,
-            name: Label::empty(),
-            other: Label::empty(),
+            name: Label::default(),
+            other: Label::default(),
         }
     }
 
@@ -48,11 +48,11 @@ impl Line {
                 Ok(Line { list, ..self })
             }
             Part::Name => Ok(Line {
-                name: Label::of(word)?,
+                name: word.parse()?,
                 ..self
             }),
             Part::Other => Ok(Line {
-                other: Label::of(word)?,
+                other: word.parse()?,
                 ..self
             }),
             Part::When => self.when(word),
