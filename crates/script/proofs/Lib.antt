@@ -1,4 +1,3 @@
-pub mod Looks
 pub mod Tries
 mod Tests
 mod Fills
