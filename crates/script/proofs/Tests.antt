@@ -1,4 +1,4 @@
--- The tests on texts and names decide what they say.
+-- What `==` on texts and on names computes decides that they are the same.
 use Rattle.std.proofs.Common.{◌≡◌, ℕ, List, Decides}
 use Rattle.std.proofs.lemmas.Slice.Eq.{bytes_eq-Decides}
 use Rattle.script.specs.declared.labels.Label.{Label}

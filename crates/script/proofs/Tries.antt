@@ -4,7 +4,7 @@ use denote.Param.Members.{Mut}
 use Rattle.std.proofs.lemmas.Iterator.{YieldsList}
 use Rattle.std.specs.ControlFlow.{continue_value}
 use Rattle.std.specs.Fn.{Called}
-use Rattle.std.specs.Iterator.{AlwaysYields, Yields, TryFoldTurn, TryFoldsItems}
+use Rattle.std.specs.Iterator.{AlwaysYields, Yields, TryFoldsItems}
 use Rattle.std.specs.List.{FoldsTo}
 use Rattle.std.specs.Option.{MatchOption}
 

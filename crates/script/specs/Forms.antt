@@ -139,7 +139,7 @@ long_enough v None = false
 long_enough v (Some ws) = cond (open_of v) (nat_le (length (parts_of v)) (length ws)) (length (parts_of v) == length ws)
 
 -- whether these words after the verb can be its line
-unfoldable pub suits_of : Verb → Words → Bool
+abbrev pub suits_of : Verb → Words → Bool
 suits_of v ws = long_enough v (body_of v ws)
 
 -- whether a line that begins with w, and goes on with ws, can be this verb's

@@ -59,3 +59,15 @@ impl<T: Drop> From<AllocFailed<T>> for Fault {
         Fault::NoMemory
     }
 }
+
+#[cfg(test)]
+mod tests {
+    use super::*;
+
+    #[test]
+    fn a_fault_is_told(rt: HostRuntime) -> Result<(), AllocError> {
+        let told = format!(in rt.alloc(); "line 4: {}", Fault::NoNumber)?;
+        assert_eq!(rt; told.as_str(), "line 4: not a number, or too large");
+        Ok(())
+    }
+}

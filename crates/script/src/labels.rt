@@ -9,6 +9,7 @@ use std::alloc::Global;
 use std::str::FromStr;
 
 /// A word of at most sixteen bytes, padded with zeros.
+// Fixed memory, as names on a disk have it: a name is copied into them, and needs no heap.
 #[derive(Clone, Copy, Debug, PartialEq, Eq)]
 pub struct Label {
     pub bytes: [u8; 16],
@@ -48,4 +49,24 @@ pub fn labels(heap: Global, words: &[&str]) -> Result<Vec<Label>, Fault>
         labels.push(word.parse()?)?;
     }
     Ok(labels)
+}
+
+#[cfg(test)]
+mod tests {
+    use super::*;
+
+    #[test]
+    fn words_become_names(rt: HostRuntime) -> Result<(), Fault> {
+        let names = labels(rt.alloc(), &["p", "name-of-16-bytes"])?;
+        assert_eq!(rt; names.len(), 2);
+        assert_eq!(rt; names[0], "p".parse()?);
+        assert_eq!(rt; &names[1].bytes, b"name-of-16-bytes");
+        Ok(())
+    }
+
+    #[test]
+    fn a_long_word_is_no_name(rt: HostRuntime) {
+        let word = "a-name-of-seventeen-bytes".parse::<Label>();
+        assert_eq!(rt; word, Err(Fault::TooLong));
+    }
 }

@@ -7,7 +7,9 @@ pub mod reads;
 use crate::labels::Label;
 use crate::verbs::Key;
 
-/// What a line asks for; its programs come beside it.
+/// What a line asks for; its programs come beside it. `machine` and `judge` are places in the fleet, `chip` is a
+/// chip's number, `word` stands for the data that is signed, closed, drawn or asked about, and `name` is what a file
+/// is called, or what a signature or a thing is kept under.
 #[derive(Clone, Copy, Debug, PartialEq, Eq)]
 pub enum Line {
     Fleet {

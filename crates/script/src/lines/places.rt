@@ -10,8 +10,9 @@ use crate::numbers::number;
 use crate::verbs::{Key, Verb};
 use std::str::FromStr;
 
-/// Zeros where no word was read: each verb's line takes only what its parts have filled, so a test
-/// whether it was read would never fail.
+/// The words that were read so far.
+// Zeros and not Options where none was read: a verb's line takes only places that its parts have filled, so a `None`
+// would be an arm that never comes.
 #[derive(Clone, Copy)]
 pub(crate) struct Places {
     first: u32,
@@ -42,6 +43,7 @@ impl Places {
         ensures { result ≡ filled self parts.now words.now }
     {
         let mut places = self;
+        // Not a zip, which would end without a word where one is missing.
         let mut words = words.iter();
         for part in parts {
             let word = words.next().ok_or(Fault::Shape)?;
@@ -76,6 +78,7 @@ impl Places {
                 second: number(word, limit)?,
                 ..self
             }),
+            // The number is within its limit, so the cast loses nothing.
             Part::List => Ok(Places {
                 list: number(word, u32::from(u16::MAX))? as u16,
                 ..self

@@ -62,3 +62,53 @@ fn misfit(word: &str) -> Fault
         Fault::Unknown
     }
 }
+
+#[cfg(test)]
+mod tests {
+    use super::*;
+    use crate::labels::Label;
+
+    #[test]
+    fn programs_stand_between_parts_and_suffix(rt: HostRuntime) -> Result<(), Fault> {
+        let words = ["keep", "0", "d", "for", "first", "p", "as", "t"];
+        let (line, programs) = read(&words)?;
+        let word = "d".parse::<Label>()?;
+        let name = "t".parse::<Label>()?;
+        assert_eq!(rt;
+            line,
+            Line::Keep {
+                machine: 0,
+                word,
+                name
+            }
+        );
+        assert_eq!(rt; programs, &words[4..6]);
+        Ok(())
+    }
+
+    #[test]
+    fn a_suffix_chooses_the_form(rt: HostRuntime) -> Result<(), Fault> {
+        let (line, _) = read(&["file", "p", "then", "q"])?;
+        let name = "p".parse::<Label>()?;
+        let then = Some("q".parse::<Label>()?);
+        assert_eq!(rt; line, Line::File { name, then });
+        let (line, _) = read(&["file", "p"])?;
+        assert_eq!(rt; line, Line::File { name, then: None });
+        Ok(())
+    }
+
+    #[test]
+    fn a_bad_line_is_refused(rt: HostRuntime) {
+        assert!(rt; matches!(read(&[]), Err(Fault::Shape)));
+        assert!(rt; matches!(read(&["jump", "0"]), Err(Fault::Unknown)));
+        assert!(rt; matches!(read(&["start", "0"]), Err(Fault::Shape)));
+        assert!(rt; matches!(read(&["sign", "0", "n1", "s"]), Err(Fault::Shape)));
+        assert!(rt; matches!(read(&["fleet", "1", "256", "b"]), Err(Fault::NoNumber)));
+        assert!(rt;
+            matches!(
+                read(&["file", "a-name-of-seventeen-bytes"]),
+                Err(Fault::TooLong)
+            )
+        );
+    }
+}

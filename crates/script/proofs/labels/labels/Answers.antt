@@ -1,4 +1,4 @@
-use Rattle.std.proofs.Common.{◌≡◌, ◌+◌, cond, [], ◌∷◌, ◌++◌, drop, Ok, Err, vec_items, Vec, ap, ◌∙◌}
+use Rattle.std.proofs.Common.{◌+◌, drop, Ok, Err, vec_items, Vec, ap, ◌∙◌}
 use Rattle.std.specs.declared.alloc.Global.{Global}
 use Rattle.std.proofs.lemmas.Result.{err_from_is_err_and}
 use Rattle.script.specs.declared.labels.Label.{Label}

@@ -9,6 +9,6 @@ returns-in-len2-up c = suffix_is c.args.key c.args.words.now _ _ true c.in-len2-
 
 pub returns-in_default : goal.returns-in_default
 returns-in_default c = elim c.in_default.branch [
-    in_default-via-then-words-lt2 w ↦ suffix_short c.args.key c.args.words.now (omega (arith, ltb-true))
+  | in_default-via-then-words-lt2 w ↦ suffix_short c.args.key c.args.words.now (omega (arith, ltb-true))
   | in_default-via-in-len2-up+else-eq w ↦ suffix_is c.args.key c.args.words.now _ _ false w.in-len2-up.len_at_least w.text.ensures w.if-eq.ensures
-  ]
+]
