@@ -16,10 +16,9 @@ unfolding programs_of
 programs_nil es r = refl
 
 -- what is left to read comes to the whole, before a name and after it; t is what was kept of it
-pub programs_next : (es xs : List Entry) (r : Register) (names : List Name) (i : ℕ) (n d : Name) (o : Option Digest) (t : Option Register) (whole : List Entry × Option Register) → i < length names → n ≡ get_or names i d → (xs, o) ≡ program_of es n → took r o ≡ t → programs_of es r (drop i names) ≡ whole → go_on xs t (λ ys q. programs_of ys q (drop (i + 1) names)) ≡ whole
-programs_next es xs r names i n d o t whole below is read kept left =
-    let at_i : drop i names ≡ n ∷ drop (i + 1) names = drop_more names i d below ∙ ap (λ x. x ∷ drop (i + 1) names) (sym is) in
-    ap (λ k. go_on xs k (λ ys q. programs_of ys q (drop (i + 1) names))) (sym kept) ∙ ap (λ p. go_on p.0 (took r p.1) (λ ys q. programs_of ys q (drop (i + 1) names))) read ∙ sym (programs_cons es r n (drop (i + 1) names)) ∙ ap (programs_of es r) (sym at_i) ∙ left
+pub programs_next : (es xs : List Entry) (r : Register) (names : List Name) (i : ℕ) (d : Name) (o : Option Digest) (t : Option Register) (whole : List Entry × Option Register) → i < length names → (xs, o) ≡ program_of es (get_or names i d) → took r o ≡ t → programs_of es r (drop i names) ≡ whole → go_on xs t (λ ys q. programs_of ys q (drop (i + 1) names)) ≡ whole
+programs_next es xs r names i d o t whole below read kept left =
+    ap (λ k. go_on xs k (λ ys q. programs_of ys q (drop (i + 1) names))) (sym kept) ∙ ap (λ p. go_on p.0 (took r p.1) (λ ys q. programs_of ys q (drop (i + 1) names))) read ∙ sym (programs_cons es r (get_or names i d) (drop (i + 1) names)) ∙ ap (programs_of es r) (sym (drop_more names i d below)) ∙ left
 
 pub programs_all : (es : List Entry) (r : Register) (names : List Name) (i : ℕ) (whole : List Entry × Option Register) → length names ≤ i → programs_of es r (drop i names) ≡ whole → (es, Some r) ≡ whole
 programs_all es r names i whole past left = sym (programs_nil es r) ∙ ap (programs_of es r) (sym (drop_all i names past)) ∙ left

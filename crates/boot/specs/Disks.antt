@@ -1,5 +1,5 @@
 -- What reading a disk gives, and what it leaves.
-use Rattle.std.specs.Prelude.{ℕ, suc, ◌-◌, Bool, true, false, cond, ◌&&◌, List, [], ◌∷◌, ◌++◌, length, take, Some, None, Option, nat_le, nat_lt, slice_index_or, slice_set}
+use Rattle.std.specs.Prelude.{ℕ, ◌-◌, Bool, true, false, cond, ◌&&◌, List, [], ◌∷◌, ◌++◌, take, position, Some, None, Option, nat_le, nat_lt, slice_index_or, slice_set}
 use Rattle.std.specs.Str.{bytes_eq}
 use Rattle.device.specs.declared.digests.Digest.{Digest}
 use Rattle.device.specs.declared.registers.Register.{Register}
@@ -8,14 +8,16 @@ use Rattle.boot.specs.declared.disks.Name.{Name}
 use Rattle.boot.specs.declared.disks.StartList.{StartList}
 use Rattle.boot.specs.declared.disks.File.{File}
 use Rattle.boot.specs.declared.disks.File.TheVariants as file
+use Rattle.boot.specs.declared.disks.Seen.{Seen}
+use Rattle.boot.specs.declared.disks.Seen.TheVariants.{Unread, Read, Listed}
 use Rattle.boot.specs.declared.disks.Entry.{Entry}
 use Rattle.boot.specs.declared.disks.Batch.{Batch}
 
-unfoldable pub same_name : Name → Name → Bool
+abbrev pub same_name : Name → Name → Bool
 same_name m n = bytes_eq m.bytes n.bytes
 
 abbrev pub new_entry : Name → File → File → Entry
-new_entry n f g = record { name = n; file = f; swapped = g; read = false; listed = false }
+new_entry n f g = record { name = n; file = f; swapped = g; seen = Unread }
 
 -- one file more, if memory is found
 abbrev pub added : Bool → List Entry → Name → File → File → List Entry
@@ -24,27 +26,45 @@ added m es n f g = cond m (es ++ new_entry n f g ∷ []) es
 abbrev pub unread : Entry → Entry
 unread e = new_entry e.name e.file e.swapped
 
--- where the first entry of this name stands, or past the end
-unfoldable pub place : List Entry → Name → ℕ
-place [] n = 0
-place (e ∷ es) n = cond (same_name e.name n) 0 (suc (place es n))
+-- where the first entry of this name stands
+abbrev pub place : List Entry → Name → Option ℕ
+place es n = position (λ e. same_name e.name n) es
+
+-- whether the file was read, and whether it was read as a start list
+abbrev pub was_read : Seen → Bool
+was_read Unread = false
+was_read Read = true
+was_read Listed = true
+
+abbrev pub was_listed : Seen → Bool
+was_listed Unread = false
+was_listed Read = false
+was_listed Listed = true
 
 -- what a read gives: once the file was read, what was put in its place
 abbrev pub shown : Entry → File
-shown e = cond e.read e.swapped e.file
+shown e = cond (was_read e.seen) e.swapped e.file
+
+-- after a read: it was read as a start list if this read, or one before it, is as one
+abbrev pub seen_by : (as_list : Bool) → Seen → Seen
+seen_by as_list s = cond (cond (was_listed s) true as_list) Listed Read
 
 abbrev pub marked : Bool → Entry → Entry
-marked as_list e = record { name = e.name; file = e.file; swapped = e.swapped; read = true; listed = cond e.listed true as_list }
+marked as_list e = record { name = e.name; file = e.file; swapped = e.swapped; seen = seen_by as_list e.seen }
 
 -- what stands past the end, and is never read
 abbrev pub blank : Entry
 blank = new_entry (record { bytes = [] }) (file.Program (record { bytes = [] })) (file.Program (record { bytes = [] }))
 
-abbrev pub read_at : Bool → List Entry → ℕ → Entry → List Entry × Option File
-read_at as_list es i e = cond (cond as_list e.listed false) (es, None) (slice_set es i (marked as_list e), Some (shown e))
+abbrev pub read_entry : Bool → List Entry → ℕ → Entry → List Entry × Option File
+read_entry as_list es i e = cond (cond as_list (was_listed e.seen) false) (es, None) (slice_set es i (marked as_list e), Some (shown e))
+
+abbrev pub read_at : Bool → List Entry → Option ℕ → List Entry × Option File
+read_at as_list es None = (es, None)
+read_at as_list es (Some i) = read_entry as_list es i (slice_index_or es i blank)
 
 abbrev pub read_of : (as_list : Bool) → List Entry → Name → List Entry × Option File
-read_of as_list es n = cond (nat_lt (place es n) (length es)) (read_at as_list es (place es n) (slice_index_or es (place es n) blank)) (es, None)
+read_of as_list es n = read_at as_list es (place es n)
 
 -- ---- a start list's programs
 

@@ -1,9 +1,8 @@
 -- What switching, loading and starting do to a machine by value.
-use Rattle.std.specs.Prelude.{ℕ, Bool, true, false, cond, List, [], ◌∷◌, Some, None, Option}
+use Rattle.std.specs.Prelude.{ℕ, List, [], ◌∷◌, Some, None, Option, Ok, Err, Result}
 use Rattle.device.specs.declared.chips.Chip.{Chip}
-use Rattle.device.specs.declared.chips.Answer.{Answer}
-use Rattle.device.specs.declared.chips.Answer.TheVariants.{Done, Signed, Counter, Closed, Opened, Now, Refused}
 use Rattle.device.specs.declared.digests.Digest.{Digest}
+use Rattle.device.specs.declared.refusals.Refusal.{Refusal}
 use Rattle.device.specs.declared.registers.Register.{Register}
 use Rattle.device.specs.Rows.{empty_register, pushed}
 use Rattle.device.specs.Commands as chip
@@ -15,22 +14,17 @@ new_machine a = record { chip = chip.new_chip a; ran = empty_register }
 abbrev pub switched : Machine → Machine
 switched m = record { chip = chip.switched m.chip; ran = empty_register }
 
-abbrev pub done : Answer → Bool
-done Done = true
-done (Signed s) = false
-done (Counter n) = false
-done (Closed x) = false
-done (Opened d) = false
-done (Now n r) = false
-done (Refused k) = false
-
 abbrev pub ran_with : Chip → Option Register → Option Machine
 ran_with c None = None
 ran_with c (Some r) = Some (record { chip = c; ran = r })
 
+abbrev pub put_into : Result Chip Refusal → Option Register → Option Machine
+put_into (Ok c) r = ran_with c r
+put_into (Err k) r = None
+
 -- the digest is put in, and then the program is loaded
 abbrev pub load_of : Machine → Digest → Option Machine
-load_of m d = cond (done (chip.put_of m.chip d).1) (ran_with (chip.put_of m.chip d).0 (pushed m.ran d)) None
+load_of m d = put_into (chip.put_of m.chip d) (pushed m.ran d)
 
 abbrev pub go_on : Option Machine → (Machine → Option Machine) → Option Machine
 go_on None f = None

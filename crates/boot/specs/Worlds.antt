@@ -1,5 +1,5 @@
 -- Which steps of the world starting and loading are.
-use Rattle.std.specs.Prelude.{◌≡◌, ℕ, suc, List, [], ◌∷◌, length, Some, None, Option}
+use Rattle.std.specs.Prelude.{◌≡◌, ℕ, suc, List, [], ◌∷◌, length, Ok, Result}
 use Rattle.model.specs.Term as term
 use Rattle.model.specs.World.{Programs, World}
 use Rattle.model.specs.Effect as effect
@@ -29,7 +29,7 @@ pub record Started (pr : Programs) (w : World) (a : ℕ) (n : Machine) : Type 0 
   pub begins : Begins pr (words n.ran)
   pub told : words n.chip.register ≡ words n.ran
 
-abbrev pub Starts : Machine → Digest → Machine × Option Refusal → Type 0
+abbrev pub Starts : Machine → Digest → Machine × Result (Unit {0}) Refusal → Type 0
 Starts m first r = (pr : Programs) (w : World) (a : ℕ) → Stands m w a → first.bytes ≡ pr.first → Started pr w a r.0
 
 -- the program that was loaded last
@@ -38,9 +38,5 @@ latest [] = []
 latest (p ∷ ps) = p
 
 -- a further program, which is then the latest
-pub record Asks (m : Machine) (r : Machine × Option Refusal) : Type 0 where
-  pub loads : (pr : Programs) (w : World) (a : ℕ) → Stands m w a → r.1 ≡ None → Step pr w (effect.on_machine a (effect.loaded (latest (words r.0.ran))) w) × Stands r.0 (effect.on_machine a (effect.loaded (latest (words r.0.ran))) w) a
-
--- a refusal changes nothing
-abbrev pub Refuses : Machine → Machine × Option Refusal → Type 0
-Refuses m r = (k : Refusal) → r.1 ≡ Some k → r.0 ≡ m
+pub record Asks (m : Machine) (r : Result Machine Refusal) : Type 0 where
+  pub loads : (pr : Programs) (w : World) (a : ℕ) (n : Machine) → Stands m w a → r ≡ Ok n → Step pr w (effect.on_machine a (effect.loaded (latest (words n.ran))) w) × Stands n (effect.on_machine a (effect.loaded (latest (words n.ran))) w) a

@@ -1,131 +1,127 @@
 //! Reading a disk.
 
-ghost use Rattle.std.specs.Prelude.{◌≡◌, ◌≤◌, false, [], map};
+ghost use Rattle.std.specs.Prelude.{◌≡◌, [], map, length, is_ok};
 ghost use Rattle.device.specs.Rows.{empty_register};
-ghost use Rattle.boot.specs.Disks.{same_name, added, unread, place, read_of, program_of, programs_of, listed_of, batch_of};
+ghost use Rattle.boot.specs.Disks.{added, unread, place, shown, seen_by, read_of, program_of, programs_of, listed_of, batch_of};
 
-use crate::disks::{Batch, Disk, Entry, File, Name, StartList};
+use crate::disks::{Batch, Disk, Entry, File, Name, Seen, StartList};
 use device::digests::Digest;
 use device::registers::Register;
-use std::alloc::Global;
+use std::alloc::{AllocError, Global};
 
-impl Name {
-    pub fn same(self, other: Name) -> bool
-        ensures { result ≡ same_name self other }
+impl Seen {
+    /// After one read more.
+    fn again(self, as_list: bool) -> Seen
+        ensures { result ≡ seen_by as_list self }
     {
-        self == other
+        match self {
+            Seen::Listed => Seen::Listed,
+            Seen::Unread | Seen::Read => if as_list { Seen::Listed } else { Seen::Read },
+        }
+    }
+}
+
+impl Entry {
+    /// What a read gives: once the file was read, what was put in its place.
+    fn shown(self) -> File
+        ensures { result ≡ shown self }
+    {
+        match self.seen {
+            Seen::Unread => self.file,
+            Seen::Read | Seen::Listed => self.swapped,
+        }
     }
 }
 
 impl Disk {
     pub fn new(heap: Global) -> Disk
-        ensures { result.entries.items ≡ [] }
+        ensures { result ≡ [] }
     {
         Disk {
             entries: Vec::new(heap),
         }
     }
 
-    /// One file more, with what outsiders put in its place once it was read; false where there is no memory.
-    pub fn add(&mut self, name: Name, file: File, swapped: File) -> bool
-        ensures { self.new.entries.items ≡ added result self.old.entries.items name file swapped }
+    /// One file more, with what outsiders put in its place once it was read.
+    pub fn add(&mut self, name: Name, file: File, swapped: File) -> Result<(), AllocError>
+        ensures { self.new ≡ added (is_ok result) self.old name file swapped }
     {
-        self.entries
-            .push(Entry {
-                name,
-                file,
-                swapped,
-                read: false,
-                listed: false,
-            })
-            .is_ok()
+        self.entries.push(Entry {
+            name,
+            file,
+            swapped,
+            seen: Seen::Unread,
+        })?;
+        Ok(())
+    }
+
+    /// Removes every file.
+    pub fn clear(&mut self)
+        ensures { self.new ≡ [] }
+    {
+        self.entries.clear();
+    }
+
+    /// How many files there are.
+    pub(crate) fn len(&self) -> usize
+        ensures { result ≡ length self.now }
+    {
+        self.entries.len()
     }
 
     /// A new start: nothing was read yet.
     pub fn rewind(&mut self)
-        ensures { self.new.entries.items ≡ map unread self.old.entries.items }
+        ensures { self.new ≡ map unread self.old }
     {
-        for i in 0..self.entries.len() {
-            let entry = self.entries[i];
-            self.entries[i] = Entry {
-                read: false,
-                listed: false,
-                ..entry
-            };
+        for entry in self.entries.iter_mut() {
+            entry.seen = Seen::Unread;
         }
     }
 
-    /// Where the first entry of this name stands, or how many entries there are.
-    fn find(&self, name: Name) -> usize
-        ensures { result ≡ place self.now.entries.items name }
+    /// Where the first entry of this name stands.
+    fn find(&self, name: Name) -> Option<usize>
+        ensures { result ≡ place self.now name }
     {
-        for i in 0..self.entries.len() {
-            let entry = self.entries[i];
-            if entry.name.same(name) {
-                return i;
-            }
-        }
-        self.entries.len()
+        self.entries.iter().position(|entry| entry.name == name)
     }
 
     /// The file of this name; a start list is read once in a start.
     pub fn read(&mut self, name: Name, as_list: bool) -> Option<File>
-        ensures { (self.new.entries.items, result) ≡ read_of as_list self.old.entries.items name }
+        ensures { (self.new, result) ≡ read_of as_list self.old name }
     {
-        let i = self.find(name);
-        if i >= self.entries.len() {
-            return None;
-        }
+        let i = self.find(name)?;
         let entry = self.entries[i];
-        if as_list && entry.listed {
+        if as_list && entry.seen == Seen::Listed {
             return None;
         }
-        self.entries[i] = Entry {
-            read: true,
-            listed: entry.listed || as_list,
-            ..entry
-        };
-        if entry.read {
-            Some(entry.swapped)
-        } else {
-            Some(entry.file)
-        }
+        self.entries[i].seen = entry.seen.again(as_list);
+        Some(entry.shown())
     }
 
     /// The program of this name.
     pub fn program(&mut self, name: Name) -> Option<Digest>
-        ensures { (self.new.entries.items, result) ≡ program_of self.old.entries.items name }
+        ensures { (self.new, result) ≡ program_of self.old name }
     {
-        match self.read(name, false) {
-            Some(File::Program(digest)) => Some(digest),
-            Some(File::List(_)) => None,
-            None => None,
+        match self.read(name, false)? {
+            File::Program(digest) => Some(digest),
+            File::List(_) => None,
         }
     }
 
     /// All programs of these names, or none where one is not there.
     fn programs(&mut self, names: &[Name]) -> Option<Register>
-        ensures { (self.new.entries.items, result) ≡ programs_of self.old.entries.items empty_register names.now }
+        ensures { (self.new, result) ≡ programs_of self.old empty_register names.now }
     {
         let mut programs = Register::empty();
-        let mut missing = false;
-        'names: for i in 0..names.len() {
-            let name = names[i];
-            let Some(digest) = self.program(name) else {
-                missing = true;
-                break 'names;
-            };
-            let Some(more) = programs.with(digest) else {
-                missing = true;
-                break 'names;
-            };
-            programs = more;
+        for name in names {
+            let digest = self.program(*name)?;
+            programs = programs.with(digest)?;
         }
-        if missing { None } else { Some(programs) }
+        Some(programs)
     }
 
     fn listed(&mut self, list: StartList) -> Option<Batch>
-        ensures { (self.new.entries.items, result) ≡ listed_of self.old.entries.items list }
+        ensures { (self.new, result) ≡ listed_of self.old list }
     {
         let count = list.count as usize;
         if count == 0 || count > 8 {
@@ -148,12 +144,11 @@ impl Disk {
 
     /// What the start list of this name comes to; none where it, or a program that it names, cannot be read.
     pub fn batch(&mut self, name: Name) -> Option<Batch>
-        ensures { (self.new.entries.items, result) ≡ batch_of self.old.entries.items name }
+        ensures { (self.new, result) ≡ batch_of self.old name }
     {
-        match self.read(name, true) {
-            Some(File::List(list)) => self.listed(list),
-            Some(File::Program(_)) => None,
-            None => None,
+        match self.read(name, true)? {
+            File::List(list) => self.listed(list),
+            File::Program(_) => None,
         }
     }
 }

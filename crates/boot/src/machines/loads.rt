@@ -5,7 +5,7 @@ ghost use Rattle.device.specs.Rows.{row};
 ghost use Rattle.boot.specs.Machines.{new_machine, switched, load_of, load_all_of};
 
 use crate::machines::Machine;
-use device::chips::{Answer, Chip};
+use device::chips::Chip;
 use device::digests::Digest;
 use device::registers::Register;
 
@@ -32,13 +32,8 @@ impl Machine {
     pub fn load(self, digest: Digest) -> Option<Machine>
         ensures { result ≡ load_of self digest }
     {
-        let (chip, answer) = self.chip.put(digest);
-        let Answer::Done = answer else {
-            return None;
-        };
-        let Some(ran) = self.ran.with(digest) else {
-            return None;
-        };
+        let chip = self.chip.put(digest).ok()?;
+        let ran = self.ran.with(digest)?;
         Some(Machine { chip, ran })
     }
 
@@ -47,17 +42,9 @@ impl Machine {
         ensures { result ≡ load_all_of self (row programs) }
     {
         let mut machine = self;
-        let mut full = false;
-        'programs: for i in 0..programs.len() {
-            let Some(digest) = programs.digest(i) else {
-                break 'programs;
-            };
-            let Some(next) = machine.load(digest) else {
-                full = true;
-                break 'programs;
-            };
-            machine = next;
+        for digest in programs.as_slice() {
+            machine = machine.load(*digest)?;
         }
-        if full { None } else { Some(machine) }
+        Some(machine)
     }
 }

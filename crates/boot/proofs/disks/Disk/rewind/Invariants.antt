@@ -1,6 +1,6 @@
-use Rattle.std.proofs.Common.{◌≡◌, ◌++◌, map, take, drop, vec_items}
+use Rattle.std.proofs.Common.{◌≡◌, ◌++◌, map, take, drop}
 use Rattle.boot.specs.Disks.{unread}
 use Rattle.boot.proofs.disks.Disk.rewind.Given as goal
 
-abbrev pub invariant-loop-i : goal.invariant-loop-i
-invariant-loop-i l = vec_items l.self.entries ≡ map unread (take l.i (vec_items l.initial.self.entries)) ++ drop l.i (vec_items l.initial.self.entries)
+abbrev pub invariant-loop-entry : goal.invariant-loop-entry
+invariant-loop-entry l = l.entry-items ≡ map unread (take l.entry-index l.initial.entry-items) ++ drop l.entry-index l.initial.entry-items

@@ -1,5 +1,5 @@
+use Rattle.boot.proofs.Worlds.{asks}
 use Rattle.boot.proofs.machines.Machine.ask.Goals as goal
-use Rattle.boot.proofs.Worlds.{asks, refuses}
 
-pub returns : goal.returns
-returns c = record { exact = c.fetch.ensures; steps = asks c.args.self _ _ c.args.name _ c.fetch.ensures; refuses = refuses c.args.self _ _ c.args.name _ c.fetch.ensures }
+pub returns-clause-steps : goal.returns-clause-steps
+returns-clause-steps c = asks c.args.self _ _ c.args.name _ c.fetch.ensures
