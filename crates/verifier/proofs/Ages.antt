@@ -1,7 +1,7 @@
--- The loop that ages questions in place: those before the place are aged, and the rest are not.
-use Rattle.std.proofs.Common.{◌≡◌, ℕ, suc, ◌+◌, ◌<◌, ◌≤◌, true, false, cond, ltb, List, [], ◌∷◌, ◌++◌, length, get_or, take, drop, set, sym, refl, ap, ◌∙◌, append_assoc, add-one, arith}
-use Rattle.std.specs.List.{remove}
-use Rattle.std.proofs.lemmas.List.{at_drop_more, take_more_set, drop-set-lt, take_at, drop_at, take_all, drop_all, length-take-le, append-nil}
+-- What is kept of the questions, each as it was changed, is what is left of them.
+use Rattle.std.proofs.Common.{◌≡◌, ℕ, ◌-◌, ◌<◌, Bool, cond, ltb, List, [], ◌∷◌, refl, sym, subst, ◌∙◌, arith}
+use Rattle.std.proofs.lemmas.Bool.Decides.{same_from_decides, Decides-ltb}
+use Rattle.std.specs.List.Retain.{RetainsInTurn}
 use Rattle.verifier.specs.declared.judges.Question.{Question}
 use Rattle.verifier.specs.Ages.{older, aged}
 
@@ -13,17 +13,12 @@ aged_nil : (n : ℕ) → aged n [] ≡ []
 unfolding aged
 aged_nil n = refl
 
-aged_at : (n : ℕ) (qs : List Question) (i : ℕ) (q : Question) → i < length qs → q ≡ get_or qs i q → aged n (drop i qs) ≡ cond (ltb n q.left) (older n q ∷ aged n (drop (i + 1) qs)) (aged n (drop (i + 1) qs))
-aged_at n qs i q h is = at_drop_more (aged n) qs i q h ∙ ap (λ x. aged n (x ∷ drop (i + 1) qs)) (sym is) ∙ aged_cons n q (drop (i + 1) qs)
+left_over : (n m : ℕ) → ltb 0 (m - n) ≡ ltb n m
+left_over n m = same_from_decides _ _ (Decides-ltb 0 (m - n)) ((λ t. let h : n < m = (Decides-ltb n m).0 t in omega arith), λ h. (Decides-ltb n m).1 (omega arith))
 
-pub age_keep : (n : ℕ) (qs whole : List Question) (i : ℕ) (q : Question) → i < length qs → take i qs ++ aged n (drop i qs) ≡ whole → q ≡ get_or qs i q → ltb n q.left ≡ true → take (i + 1) (set qs i (older n q)) ++ aged n (drop (i + 1) (set qs i (older n q))) ≡ whole
-age_keep n qs whole i q h e is stays =
-    (λ k. take_more_set qs i (older n q) h k ++ aged n (drop-set-lt (i + 1) qs i (older n q) (omega arith) k)) ∙ append_assoc (take i qs) (older n q ∷ []) (aged n (drop (i + 1) qs)) ∙ ap (λ l. take i qs ++ l) (sym (aged_at n qs i q h is ∙ ap (λ b. cond b (older n q ∷ aged n (drop (i + 1) qs)) (aged n (drop (i + 1) qs))) stays)) ∙ e
-
-pub age_out : (n : ℕ) (qs left whole : List Question) (i : ℕ) (q : Question) → i < length qs → take i qs ++ aged n (drop i qs) ≡ whole → q ≡ get_or qs i q → ltb n q.left ≡ false → left ≡ remove qs i → take i left ++ aged n (drop i left) ≡ whole
-age_out n qs left whole i q h e is goes out =
-    let long : length (take i qs) ≡ i = length-take-le i qs (omega arith) in
-    (λ k. take i (out k) ++ aged n (drop i (out k))) ∙ (λ k. take_at (take i qs) (drop (suc i) qs) i long k ++ aged n (drop_at (take i qs) (drop (suc i) qs) i long k)) ∙ ap (λ m. take i qs ++ aged n (drop m qs)) (sym (add-one i)) ∙ ap (λ l. take i qs ++ l) (sym (aged_at n qs i q h is ∙ ap (λ b. cond b (older n q ∷ aged n (drop (i + 1) qs)) (aged n (drop (i + 1) qs))) goes)) ∙ e
-
-pub age_end : (n : ℕ) (qs whole : List Question) (i : ℕ) → length qs ≤ i → take i qs ++ aged n (drop i qs) ≡ whole → qs ≡ whole
-age_end n qs whole i h e = sym ((λ k. take_all i qs h k ++ aged n (drop_all i qs h k)) ∙ ap (λ l. qs ++ l) (aged_nil n) ∙ append-nil qs) ∙ e
+pub retained_aged : {S : Type 0} (R : S → Question → Bool → S → Question → Type 0) (n : ℕ) (s : S) → ((q : Question) (b : Bool) (t : S) (r : Question) → R s q b t r → (t ≡ s) × (b ≡ ltb 0 (q.left - n)) × (r ≡ older n q)) → (qs rs : List Question) → RetainsInTurn R s qs rs → rs ≡ aged n qs
+retained_aged R n s h [] rs e = e ∙ sym (aged_nil n)
+retained_aged R n s h (q ∷ qs) rs (b, t, r, called, rest, more, e) =
+    let (same, stays, is) = h q b t r called in
+    let ih : rest ≡ aged n qs = retained_aged R n s h qs rest (subst (λ u. RetainsInTurn R u qs rest) same more) in
+    e ∙ (λ i. cond ((stays ∙ left_over n q.left) i) (is i ∷ ih i) (ih i)) ∙ sym (aged_cons n q qs)

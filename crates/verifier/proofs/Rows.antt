@@ -1,5 +1,5 @@
 -- Rows that grow by one digest, and their flags.
-use Rattle.std.proofs.Common.{◌≡◌, ℕ, suc, ◌+◌, ◌-◌, ◌<◌, ◌≤◌, Bool, false, List, [], ◌∷◌, ◌++◌, map, reverse, length, get_or, take, drop, set, replicate, Some, None, Option, sym, refl, ap, ◌∙◌, append_assoc, arith}
+use Rattle.std.proofs.Common.{◌≡◌, ℕ, suc, ◌+◌, ◌-◌, ◌<◌, ◌≤◌, Bool, false, List, [], ◌∷◌, ◌++◌, map, reverse, length, get_or, take, drop, set, replicate, Some, None, Option, sym, refl, ap, ◌∙◌, subst, append_assoc, arith}
 use mathlib.Core.List.{reverse-cons}
 use Rattle.std.proofs.lemmas.List.{at_drop_more, at_drop_all, set_at, map_more, map-append, length-map, length-take-le}
 use Rattle.device.specs.declared.digests.Digest.{Digest}
@@ -33,14 +33,12 @@ pub gather_end : (r : Register) (ds : List Digest) (i : ℕ) → length ds ≤ i
 gather_end r ds i h e = sym (filled_nil r) ∙ sym (at_drop_all (filled (Some r)) ds i h) ∙ e
 
 -- one flag more
-flag_more : {A : Type 0} (f : A → Bool) (ds : List A) (i : ℕ) (d : A) → length ds ≡ 16 → i < 16 → set (map f (take i ds) ++ replicate (16 - i) false) i (f (get_or ds i d)) ≡ map f (take (i + 1) ds) ++ replicate (16 - (i + 1)) false
-flag_more f ds i d long h =
-    let is : 16 - i ≡ suc (16 - (i + 1)) = omega arith in
+pub flag_step : {A : Type 0} (f : A → Bool) (ds : List A) (i : ℕ) (d : A) (known : List Bool) (b : Bool) (es : List A) → length ds ≤ 16 → es ≡ ds → i < length es → known ≡ map f (take i ds) ++ replicate (16 - i) false → b ≡ f (get_or es i d) → set known i b ≡ map f (take (i + 1) ds) ++ replicate (16 - (i + 1)) false
+flag_step f ds i d known b es long same below e is =
+    let h : i < length ds = subst (λ l. i < length l) same below in
+    let next : 16 - i ≡ suc (16 - (i + 1)) = omega arith in
     let here : length (map f (take i ds)) ≡ i = length-map (take i ds) f ∙ length-take-le i ds (omega arith) in
-    ap (λ n. set (map f (take i ds) ++ replicate n false) i (f (get_or ds i d))) is ∙ set_at (map f (take i ds)) false (replicate (16 - (i + 1)) false) (f (get_or ds i d)) i here ∙ sym (ap (λ l. l ++ replicate (16 - (i + 1)) false) (map_more f ds i d (omega arith)) ∙ append_assoc (map f (take i ds)) (f (get_or ds i d) ∷ []) (replicate (16 - (i + 1)) false))
-
-pub flag_step : {A : Type 0} (f : A → Bool) (ds : List A) (i : ℕ) (d : A) (known : List Bool) (b : Bool) → length ds ≡ 16 → i < 16 → known ≡ map f (take i ds) ++ replicate (16 - i) false → b ≡ f (get_or ds i d) → set known i b ≡ map f (take (i + 1) ds) ++ replicate (16 - (i + 1)) false
-flag_step f ds i d known b long h e is = (λ k. set (e k) i (is k)) ∙ flag_more f ds i d long h
+    (λ k. set (e k) i (is k)) ∙ ap (λ l. set (map f (take i ds) ++ replicate (16 - i) false) i (f (get_or l i d))) same ∙ ap (λ n. set (map f (take i ds) ++ replicate n false) i (f (get_or ds i d))) next ∙ set_at (map f (take i ds)) false (replicate (16 - (i + 1)) false) (f (get_or ds i d)) i here ∙ sym (ap (λ l. l ++ replicate (16 - (i + 1)) false) (map_more f ds i d h) ∙ append_assoc (map f (take i ds)) (f (get_or ds i d) ∷ []) (replicate (16 - (i + 1)) false))
 
 -- what a register holds with all of these digests more
 pub filled_words : (r : Register) (ds : List Digest) (s : Register) → filled (Some r) ds ≡ Some s → words s ≡ map (λ d. d.bytes) (reverse ds) ++ words r

@@ -1,7 +1,7 @@
--- Loops that look through a list: what is left gives what the whole gives.
-use Rattle.std.proofs.Common.{◌≡◌, ℕ, suc, ◌+◌, ◌-◌, ◌<◌, ◌≤◌, Bool, true, false, cond, T, eqb, List, [], ◌∷◌, length, get_or, drop, Some, None, sym, refl, ap, ◌∙◌, subst, arith, eqb→eq}
+-- What the library's searches find is what the searches of the contracts find.
+use Rattle.std.proofs.Common.{◌≡◌, ℕ, suc, ◌+◌, ◌-◌, ◌<◌, ◌≤◌, Bool, true, false, cond, T, eqb, List, [], ◌∷◌, length, get_or, ◌||◌, Some, None, sym, refl, ap, ◌∙◌, subst, arith, eqb→eq}
 use mathlib.Core.List.{Memᴰ}
-use Rattle.std.proofs.lemmas.List.{at_drop_more, at_drop_all}
+use Rattle.std.specs.List.{list_any, find, position_from}
 use Rattle.verifier.specs.Searches.{some, seek, place}
 
 some_here : {A : Type 0} (p : A → Bool) (x : A) (xs : List A) → some p (x ∷ xs) ≡ cond (p x) true (some p xs)
@@ -12,15 +12,13 @@ some_nil : {A : Type 0} (p : A → Bool) → some p [] ≡ false
 unfolding some
 some_nil p = refl
 
--- one that passes, one that does not, and the end of the list
-pub some_hit : {A : Type 0} (p : A → Bool) (xs : List A) (i : ℕ) (d : A) → i < length xs → some p (drop i xs) ≡ some p xs → p (get_or xs i d) ≡ true → true ≡ some p xs
-some_hit p xs i d h e t = sym (ap (λ b. cond b true (some p (drop (i + 1) xs))) t) ∙ sym (some_here p (get_or xs i d) (drop (i + 1) xs)) ∙ sym (at_drop_more (some p) xs i d h) ∙ e
+or_cond : (b r : Bool) → b || r ≡ cond b true r
+or_cond true r = refl
+or_cond false r = refl
 
-pub some_miss : {A : Type 0} (p : A → Bool) (xs : List A) (i : ℕ) (d : A) → i < length xs → some p (drop i xs) ≡ some p xs → p (get_or xs i d) ≡ false → some p (drop (i + 1) xs) ≡ some p xs
-some_miss p xs i d h e t = sym (ap (λ b. cond b true (some p (drop (i + 1) xs))) t) ∙ sym (some_here p (get_or xs i d) (drop (i + 1) xs)) ∙ sym (at_drop_more (some p) xs i d h) ∙ e
-
-pub some_end : {A : Type 0} (p : A → Bool) (xs : List A) (i : ℕ) → length xs ≤ i → some p (drop i xs) ≡ some p xs → false ≡ some p xs
-some_end p xs i h e = sym (some_nil p) ∙ sym (at_drop_all (some p) xs i h) ∙ e
+pub some_any : {A : Type 0} (p q : A → Bool) → ((x : A) → q x ≡ p x) → (xs : List A) → list_any q xs ≡ some p xs
+some_any p q h [] = sym (some_nil p)
+some_any p q h (x ∷ xs) = or_cond (q x) (list_any q xs) ∙ (λ i. cond (h x i) true (some_any p q h xs i)) ∙ sym (some_here p x xs)
 
 seek_here : {A : Type 0} (p : A → Bool) (x : A) (xs : List A) → seek p (x ∷ xs) ≡ cond (p x) (Some x) (seek p xs)
 unfolding seek
@@ -30,14 +28,9 @@ seek_nil : {A : Type 0} (p : A → Bool) → seek p [] ≡ None
 unfolding seek
 seek_nil p = refl
 
-pub seek_hit : {A : Type 0} (p : A → Bool) (xs : List A) (i : ℕ) (d : A) → i < length xs → seek p (drop i xs) ≡ seek p xs → p (get_or xs i d) ≡ true → Some (get_or xs i d) ≡ seek p xs
-seek_hit p xs i d h e t = sym (ap (λ b. cond b (Some (get_or xs i d)) (seek p (drop (i + 1) xs))) t) ∙ sym (seek_here p (get_or xs i d) (drop (i + 1) xs)) ∙ sym (at_drop_more (seek p) xs i d h) ∙ e
-
-pub seek_miss : {A : Type 0} (p : A → Bool) (xs : List A) (i : ℕ) (d : A) → i < length xs → seek p (drop i xs) ≡ seek p xs → p (get_or xs i d) ≡ false → seek p (drop (i + 1) xs) ≡ seek p xs
-seek_miss p xs i d h e t = sym (ap (λ b. cond b (Some (get_or xs i d)) (seek p (drop (i + 1) xs))) t) ∙ sym (seek_here p (get_or xs i d) (drop (i + 1) xs)) ∙ sym (at_drop_more (seek p) xs i d h) ∙ e
-
-pub seek_end : {A : Type 0} (p : A → Bool) (xs : List A) (i : ℕ) → length xs ≤ i → seek p (drop i xs) ≡ seek p xs → None ≡ seek p xs
-seek_end p xs i h e = sym (seek_nil p) ∙ sym (at_drop_all (seek p) xs i h) ∙ e
+pub seek_find : {A : Type 0} (p q : A → Bool) → ((x : A) → q x ≡ p x) → (xs : List A) → find q xs ≡ seek p xs
+seek_find p q h [] = sym (seek_nil p)
+seek_find p q h (x ∷ xs) = (λ i. cond (h x i) (Some x) (seek_find p q h xs i)) ∙ sym (seek_here p x xs)
 
 place_here : {A : Type 0} (p : A → Bool) (k : ℕ) (x : A) (xs : List A) → place p k (x ∷ xs) ≡ cond (p x) (Some k) (place p (k + 1) xs)
 unfolding place
@@ -47,14 +40,9 @@ place_nil : {A : Type 0} (p : A → Bool) (k : ℕ) → place p k [] ≡ None
 unfolding place
 place_nil p k = refl
 
-pub place_hit : {A : Type 0} (p : A → Bool) (xs : List A) (i : ℕ) (d : A) → i < length xs → place p i (drop i xs) ≡ place p 0 xs → p (get_or xs i d) ≡ true → Some i ≡ place p 0 xs
-place_hit p xs i d h e t = sym (ap (λ b. cond b (Some i) (place p (i + 1) (drop (i + 1) xs))) t) ∙ sym (place_here p i (get_or xs i d) (drop (i + 1) xs)) ∙ sym (at_drop_more (place p i) xs i d h) ∙ e
-
-pub place_miss : {A : Type 0} (p : A → Bool) (xs : List A) (i : ℕ) (d : A) → i < length xs → place p i (drop i xs) ≡ place p 0 xs → p (get_or xs i d) ≡ false → place p (i + 1) (drop (i + 1) xs) ≡ place p 0 xs
-place_miss p xs i d h e t = sym (ap (λ b. cond b (Some i) (place p (i + 1) (drop (i + 1) xs))) t) ∙ sym (place_here p i (get_or xs i d) (drop (i + 1) xs)) ∙ sym (at_drop_more (place p i) xs i d h) ∙ e
-
-pub place_end : {A : Type 0} (p : A → Bool) (xs : List A) (i : ℕ) → length xs ≤ i → place p i (drop i xs) ≡ place p 0 xs → None ≡ place p 0 xs
-place_end p xs i h e = sym (place_nil p i) ∙ sym (at_drop_all (place p i) xs i h) ∙ e
+pub place_position : {A : Type 0} (p q : A → Bool) → ((x : A) → q x ≡ p x) → (k : ℕ) (xs : List A) → position_from q k xs ≡ place p k xs
+place_position p q h k [] = sym (place_nil p k)
+place_position p q h k (x ∷ xs) = (λ i. cond (h x i) (Some k) (place_position p q h (k + 1) xs i)) ∙ sym (place_here p k x xs)
 
 -- the place that is found is within the list, and what stands there passes
 place_from : {A : Type 0} (p : A → Bool) (xs : List A) (n k : ℕ) (d : A) → place p n xs ≡ Some k → (n ≤ k) × (k - n < length xs) × (p (get_or xs (k - n) d) ≡ true)

@@ -1,5 +1,5 @@
 -- Each word is the steps that it says, of every world for which the judge stands.
-use Rattle.std.proofs.Common.{◌≡◌, ℕ, suc, ◌-◌, ◌<◌, Bool, true, false, cond, ◌&&◌, T, eqb, ltb, List, [], ◌∷◌, ◌++◌, map, reverse, length, get_or, take, drop, is_some, Some, None, Option, sym, refl, ap, ◌∙◌, subst, arith, eqb→eq, drop-cons}
+use Rattle.std.proofs.Common.{◌≡◌, ℕ, suc, ◌-◌, ◌<◌, Bool, true, false, cond, ◌&&◌, T, eqb, ltb, List, [], ◌∷◌, ◌++◌, map, reverse, length, get_or, take, drop, is_some, Some, None, Option, Ok, Result, sym, refl, ap, ◌∙◌, subst, arith, eqb→eq, drop-cons}
 use mathlib.Core.List.{reverse-cons, Memᴰ}
 use Rattle.std.specs.List.{remove}
 use Rattle.std.proofs.lemmas.List.{map-append, take-append-drop, append-nil, take-map, length-map}
@@ -28,6 +28,8 @@ use Rattle.verifier.specs.Rows.{gathered, flags}
 use Rattle.verifier.specs.Searches.{some, seek, place, has_number, asks}
 use Rattle.verifier.specs.Seats.{Seat, with_chips, with_lists, with_good, with_questions, new_seat, new_question, listed, refused, kept, begins, chip_of, list_by, list_of, good_of, ticks_of, ask_by, ask_of, signs, answer_by, answer_at, answer_of, office_of, net_of}
 use Rattle.verifier.specs.Worlds.{Begins, question_of, questions_of, Stands, latest, TakesChip, TakesList, Stays, PutsOut, asked, Asking, Accepts, Falls, OfficeSteps, NetSteps}
+use Rattle.verifier.specs.declared.judges.Acceptance.{Acceptance}
+use Rattle.verifier.specs.declared.judges.Fault.{Fault}
 use Rattle.verifier.specs.declared.judges.List as list
 use Rattle.verifier.specs.declared.judges.Question.{Question}
 use Rattle.verifier.specs.declared.judges.Reply.{Reply}
@@ -154,7 +156,7 @@ asking m s a draw = ask_at s a draw m (some (eqb a) s.chips) refl
 -- ---- answers
 
 answer_refused : (s : Seat) (p : Reply) (k : Refusal) → Accepts s p (refused s k)
-answer_refused s p k = record { accepts = λ pr drawn w j n r f h e g. absurd (grind arith); tells = λ n r f e. absurd (grind arith) }
+answer_refused s p k = record { accepts = λ pr drawn w j x h e g. absurd (grind arith); tells = λ x e. absurd (grind arith) }
 
 -- one of the list, with those before it and those after it
 split_at : {A : Type 0} (xs : List A) (k : ℕ) (d : A) → k < length xs → xs ≡ take k xs ++ (get_or xs k d ∷ drop (suc k) xs)
@@ -163,13 +165,20 @@ split_at xs k d h = sym (take-append-drop k xs) ∙ ap (λ l. take k xs ++ l) (d
 same_number : (a b : ℕ) → eqb a b ≡ true → a ≡ b
 same_number a b e = eqb→eq a b (subst (λ b. T b) (sym e) tt)
 
-answer_fits : (s : Seat) (p : Reply) (k : ℕ) (l : list.List) → some (eqb p.chip) s.chips ≡ true → place (asks p.chip p.«data») 0 s.questions ≡ Some k → seek (has_number p.list) s.lists ≡ Some l → signs p l.row ≡ true → Accepts s p (with_questions (remove s.questions k) s, Accepted l.number l.row (flags (listed s.good) l.row))
+-- what is said where the list fits
+abbrev accepted : Seat → list.List → Said
+accepted s l = Accepted (record { list = l.number; row = l.row; flags = flags (listed s.good) l.row })
+
+answer_fits : (s : Seat) (p : Reply) (k : ℕ) (l : list.List) → some (eqb p.chip) s.chips ≡ true → place (asks p.chip p.«data») 0 s.questions ≡ Some k → seek (has_number p.list) s.lists ≡ Some l → signs p l.row ≡ true → Accepts s p (with_questions (remove s.questions k) s, Ok (accepted s l))
 answer_fits s p k l known is_open given fits =
     record {
-      accepts = λ pr drawn w j n r f h e g. subst (λ x. Step pr w (after drawn w j x) × Stands drawn (with_questions (remove s.questions k) s) (after drawn w j x) j) (let is : l.row ≡ r = cc in is) (moves pr drawn w j h g);
-      tells = λ n r f e. ((let is : l.number ≡ n = cc in sym is ∙ sym (same_number _ _ (seek_member _ _ l given).1)), (let number_is : l.number ≡ n = cc in let row_is : l.row ≡ r = cc in subst (λ x. Memᴰ x s.lists) (λ i. record { number = number_is i; row = row_is i }) (seek_member _ _ l given).0), (let is : l.row ≡ r = cc in ap words (sym is) ∙ sym rows), (let is : flags (listed s.good) l.row ≡ f = cc in let row_is : l.row ≡ r = cc in sym is ∙ ap (flags (listed s.good)) row_is));
+      accepts = λ pr drawn w j x h e g. subst (λ r. Step pr w (after drawn w j r) × Stands drawn (with_questions (remove s.questions k) s) (after drawn w j r) j) (ap (λ y. y.row) (is x e)) (moves pr drawn w j h g);
+      tells = λ x e. subst (λ y. (y.list ≡ p.list) × Memᴰ (record { number = y.list; row = y.row }) s.lists × (words y.row ≡ words p.signature.register) × (y.flags ≡ flags (listed s.good) y.row)) (is x e) (sym (same_number _ _ (seek_member _ _ l given).1), (seek_member _ _ l given).0, sym rows, refl);
     }
   where
+    is : (x : Acceptance) → ◌≡◌ {A = Result Said Fault} (Ok (accepted s l)) (Ok (Accepted x)) → record { list = l.number; row = l.row; flags = flags (listed s.good) l.row } ≡ x
+    is x e = cc
+
     rows : words p.signature.register ≡ words l.row
     rows = ap (λ ds. map (λ d. d.bytes) (reverse ds)) ((same_digests_decides (row p.signature.register) (row l.row)).0 (and_parts (eqb p.signature.chip p.chip && same_data p.signature.«data» p.«data») _ fits).1)
 
@@ -191,7 +200,7 @@ answer_fits s p k l known is_open given fits =
         let signed : Derives w.heard (term.Sign p.chip (effect.statement (effect.honest (drawn p.«data».bytes)) (words l.row))) = subst (λ r. Derives w.heard (term.Sign p.chip (effect.statement (effect.honest (drawn p.«data».bytes)) r))) rows g in
         (subst (λ qs. Step pr w (effect.having_accepted (effect.acceptance (f (new_question p.chip p.«data»)) (words l.row)) (on_judge j (effect.with_questions qs) w))) (sym (map-append f (take k s.questions) (drop (suc k) s.questions))) (step.accepts w j (map f (take k s.questions)) (map f (drop (suc k) s.questions)) (f (new_question p.chip p.«data»)) (words l.row) split chip_known list_given signed), stands drawn (with_questions (remove s.questions k) s) _ j _ (at_same j _ w.judges) h.chips_are h.lists_are refl)
 
-answer_sign : (s : Seat) (p : Reply) (k : ℕ) (l : list.List) (b : Bool) → some (eqb p.chip) s.chips ≡ true → place (asks p.chip p.«data») 0 s.questions ≡ Some k → seek (has_number p.list) s.lists ≡ Some l → signs p l.row ≡ b → Accepts s p (cond b (with_questions (remove s.questions k) s, Accepted l.number l.row (flags (listed s.good) l.row)) (refused s BadSignature))
+answer_sign : (s : Seat) (p : Reply) (k : ℕ) (l : list.List) (b : Bool) → some (eqb p.chip) s.chips ≡ true → place (asks p.chip p.«data») 0 s.questions ≡ Some k → seek (has_number p.list) s.lists ≡ Some l → signs p l.row ≡ b → Accepts s p (cond b (with_questions (remove s.questions k) s, Ok (accepted s l)) (refused s BadSignature))
 answer_sign s p k l true known is_open given fits = answer_fits s p k l known is_open given fits
 answer_sign s p k l false known is_open given fits = answer_refused s p BadSignature
 
@@ -220,7 +229,7 @@ office_at m s (Chip a) ds draw = takes_chip m s a
 office_at m s (Ticks n) ds draw = ages s n
 office_at m s (Answer p) ds draw = accepts s p
 
-pub office_steps : (m : Bool) (s : Seat) (o : Word) (ds : List Digest) (draw : Option Data) (r : Seat × Said) → r ≡ office_of m s o ds draw → OfficeSteps s o ds draw r
+pub office_steps : (m : Bool) (s : Seat) (o : Word) (ds : List Digest) (draw : Option Data) (r : Seat × Result Said Fault) → r ≡ office_of m s o ds draw → OfficeSteps s o ds draw r
 office_steps m s o ds draw r e = subst (λ q. OfficeSteps s o ds draw q) (sym e) (office_at m s o ds draw)
 
 net_at : (s : Seat) (o : Word) → NetSteps s o (net_of s o)
@@ -231,5 +240,5 @@ net_at s (Chip a) = refl
 net_at s (Ticks n) = refl
 net_at s (Answer p) = accepts s p
 
-pub net_steps : (s : Seat) (o : Word) (r : Seat × Said) → r ≡ net_of s o → NetSteps s o r
+pub net_steps : (s : Seat) (o : Word) (r : Seat × Result Said Fault) → r ≡ net_of s o → NetSteps s o r
 net_steps s o r e = subst (λ q. NetSteps s o q) (sym e) (net_at s o)

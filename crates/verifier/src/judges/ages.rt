@@ -9,17 +9,8 @@ use crate::judges::Question;
 pub fn age(questions: &mut Vec<Question>, ticks: u32)
     ensures { questions.new.items ≡ aged ticks questions.old.items }
 {
-    let mut i = 0;
-    while i < questions.len() {
-        let question = questions[i];
-        if question.left > ticks {
-            questions[i] = Question {
-                left: question.left - ticks,
-                ..question
-            };
-            i += 1;
-        } else {
-            questions.remove(i);
-        }
-    }
+    questions.retain_mut(|question| {
+        question.left = question.left.saturating_sub(ticks);
+        question.left > 0
+    });
 }

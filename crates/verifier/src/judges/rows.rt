@@ -13,11 +13,8 @@ pub fn gather(digests: &[Digest]) -> Option<Register>
     ensures { result ≡ gathered digests.now }
 {
     let mut row = Register::empty();
-    for i in 0..digests.len() {
-        let Some(next) = row.with(digests[i]) else {
-            return None;
-        };
-        row = next;
+    for digest in digests {
+        row = row.with(*digest)?;
     }
     Some(row)
 }
@@ -26,11 +23,10 @@ pub fn gather(digests: &[Digest]) -> Option<Register>
 pub fn flag(good: &[Digest], row: Register) -> Flags
     ensures { result ≡ flags good.now row }
 {
-    let digests = row.digests();
-    let len = row.len();
     let mut known = [false; 16];
-    for i in 0..len {
-        known[i] = has_digest(good, digests[i]);
+    for (i, digest) in row.as_slice().iter().enumerate() {
+        known[i] = has_digest(good, *digest);
     }
+    let len = row.len();
     Flags { known, len }
 }

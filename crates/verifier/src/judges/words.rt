@@ -2,12 +2,13 @@
 
 ghost use Rattle.std.specs.Prelude.{◌≡◌};
 ghost use Rattle.verifier.specs.Worlds.{Begins, OfficeSteps, NetSteps, Refuses, Lacks, Falls};
-ghost use Rattle.verifier.specs.Seats.{seat, new_seat, listed, on_list, begins, signs, found, chip_of, list_of, good_of, ticks_of, ask_of, answer_of, office_of, net_of};
+ghost use Rattle.verifier.specs.Seats.{new_seat, listed, on_list, begins, signs, found, chip_of, list_of, good_of, ticks_of, ask_of, answer_of, office_of, net_of};
 
 use crate::judges::ages::age;
 use crate::judges::rows::{flag, gather};
-use crate::judges::searches::{find_list, find_question, has_chip, has_digest, same};
-use crate::judges::{Judge, List, Question, Reply, Said, Word};
+use crate::judges::searches::{find_list, find_question, has_chip, has_digest};
+use crate::judges::{Acceptance, Fault, Judge, List, Question, Reply, Said, Word};
+use device::chips::Signature;
 use device::digests::{Data, Digest};
 use device::refusals::Refusal;
 use device::registers::Register;
@@ -27,8 +28,8 @@ const PATIENCE: u32 = 60;
 impl Judge {
     /// A judge that knows nothing but the first program.
     pub fn new(heap: Global, first: Digest) -> Judge
-        ensures exact { seat result ≡ new_seat first }
-        ensures begins { Begins (seat result) }
+        ensures exact { result ≡ new_seat first }
+        ensures begins { Begins result }
     {
         Judge {
             first,
@@ -41,13 +42,13 @@ impl Judge {
 
     /// Whether the office's list has this digest.
     pub fn known(&self, digest: Digest) -> bool
-        ensures { result ≡ on_list (seat self.now).good digest }
+        ensures { result ≡ on_list self.now.good digest }
     {
         has_digest(self.office_list(), digest)
     }
 
     fn office_list(&self) -> &[Digest]
-        ensures { result.now ≡ listed (seat self.now).good }
+        ensures { result.now ≡ listed self.now.good }
     {
         match &self.good {
             Some(good) => good.as_slice(),
@@ -64,34 +65,34 @@ impl Judge {
         word: Word,
         digests: &[Digest],
         draw: Option<Data>,
-    ) -> Said
-        ensures exact { (seat self.new, result) ≡ office_of (found result) (seat self.old) word digests.now draw }
-        ensures steps { OfficeSteps (seat self.old) word digests.now draw (seat self.new, result) }
-        ensures refuses { Refuses (seat self.old) (seat self.new, result) }
-        ensures lacks { Lacks (seat self.old) (seat self.new, result) }
+    ) -> Result<Said, Fault>
+        ensures exact { (self.new, result) ≡ office_of (found result) self.old word digests.now draw }
+        ensures steps { OfficeSteps self.old word digests.now draw (self.new, result) }
+        ensures refuses { Refuses self.old (self.new, result) }
+        ensures lacks { Lacks self.old (self.new, result) }
     {
         self.hear(heap, word, digests, draw)
     }
 
     /// What comes by the net: only answers are taken.
-    pub fn net(&mut self, word: Word) -> Said
-        ensures exact { (seat self.new, result) ≡ net_of (seat self.old) word }
-        ensures steps { NetSteps (seat self.old) word (seat self.new, result) }
-        ensures refuses { Refuses (seat self.old) (seat self.new, result) }
+    pub fn net(&mut self, word: Word) -> Result<Said, Fault>
+        ensures exact { (self.new, result) ≡ net_of self.old word }
+        ensures steps { NetSteps self.old word (self.new, result) }
+        ensures refuses { Refuses self.old (self.new, result) }
     {
         self.hear_net(word)
     }
 
     /// The judge loses all that it was given, and its questions.
     pub fn fall(&mut self)
-        ensures exact { seat self.new ≡ new_seat (seat self.old).first }
-        ensures steps { Falls (seat self.old) (seat self.new) }
+        ensures exact { self.new ≡ new_seat self.old.first }
+        ensures steps { Falls self.old self.new }
     {
         self.forget();
     }
 
     fn forget(&mut self)
-        ensures { seat self.new ≡ new_seat (seat self.old).first }
+        ensures { self.new ≡ new_seat self.old.first }
     {
         self.chips.clear();
         self.lists.clear();
@@ -99,132 +100,114 @@ impl Judge {
         self.questions.clear();
     }
 
-    fn hear(&mut self, heap: Global, word: Word, digests: &[Digest], draw: Option<Data>) -> Said
-        ensures { (seat self.new, result) ≡ office_of (found result) (seat self.old) word digests.now draw }
+    fn hear(
+        &mut self,
+        heap: Global,
+        word: Word,
+        digests: &[Digest],
+        draw: Option<Data>,
+    ) -> Result<Said, Fault>
+        ensures { (self.new, result) ≡ office_of (found result) self.old word digests.now draw }
     {
         match word {
             Word::Ask(chip) => self.ask(chip, draw),
             Word::List(number) => self.list(number, digests),
             Word::Good => self.take_good(heap, digests),
             Word::Chip(chip) => self.chip(chip),
-            Word::Ticks(ticks) => self.ticks(ticks),
+            Word::Ticks(ticks) => {
+                self.ticks(ticks);
+                Ok(Said::Done)
+            }
             Word::Answer(reply) => self.answer(reply),
         }
     }
 
-    fn hear_net(&mut self, word: Word) -> Said
-        ensures { (seat self.new, result) ≡ net_of (seat self.old) word }
+    fn hear_net(&mut self, word: Word) -> Result<Said, Fault>
+        ensures { (self.new, result) ≡ net_of self.old word }
     {
         match word {
             Word::Answer(reply) => self.answer(reply),
-            _ => Said::Refused(Refusal::Malformed),
+            _ => Err(Fault::Refused(Refusal::Malformed)),
         }
     }
 }
 
 impl Judge {
-    fn chip(&mut self, chip: u32) -> Said
-        ensures { (seat self.new, result) ≡ chip_of (found result) (seat self.old) chip }
+    fn chip(&mut self, chip: u32) -> Result<Said, Fault>
+        ensures { (self.new, result) ≡ chip_of (found result) self.old chip }
     {
-        if self.chips.len() >= MAX_CHIPS {
-            return Said::Refused(Refusal::BadList);
+        if self.chips.len() >= MAX_CHIPS || has_chip(&self.chips, chip) {
+            return Err(Fault::Refused(Refusal::BadList));
         }
-        if has_chip(self.chips.as_slice(), chip) {
-            return Said::Refused(Refusal::BadList);
-        }
-        match self.chips.insert(0, chip) {
-            Ok(()) => Said::Done,
-            Err(_) => Said::NoMemory,
-        }
+        self.chips.insert(0, chip)?;
+        Ok(Said::Done)
     }
 
-    fn list(&mut self, number: u16, digests: &[Digest]) -> Said
-        ensures { (seat self.new, result) ≡ list_of (found result) (seat self.old) number digests.now }
+    fn list(&mut self, number: u16, digests: &[Digest]) -> Result<Said, Fault>
+        ensures { (self.new, result) ≡ list_of (found result) self.old number digests.now }
     {
-        if !begins(self.first, digests) {
-            return Said::Refused(Refusal::BadList);
+        if !begins(self.first, digests) || self.lists.len() >= MAX_LISTS {
+            return Err(Fault::Refused(Refusal::BadList));
         }
-        if self.lists.len() >= MAX_LISTS {
-            return Said::Refused(Refusal::BadList);
+        if find_list(&self.lists, number).is_some() {
+            return Err(Fault::Refused(Refusal::BadList));
         }
-        if find_list(self.lists.as_slice(), number).is_some() {
-            return Said::Refused(Refusal::BadList);
-        }
-        let Some(row) = gather(digests) else {
-            return Said::Refused(Refusal::BadList);
-        };
-        match self.lists.insert(0, List { number, row }) {
-            Ok(()) => Said::Done,
-            Err(_) => Said::NoMemory,
-        }
+        let row = gather(digests).ok_or(Refusal::BadList)?;
+        self.lists.insert(0, List { number, row })?;
+        Ok(Said::Done)
     }
 
-    fn take_good(&mut self, heap: Global, digests: &[Digest]) -> Said
-        ensures { (seat self.new, result) ≡ good_of (found result) (seat self.old) digests.now }
+    fn take_good(&mut self, heap: Global, digests: &[Digest]) -> Result<Said, Fault>
+        ensures { (self.new, result) ≡ good_of (found result) self.old digests.now }
     {
-        if digests.len() > MAX_GOOD {
-            return Said::Refused(Refusal::BadList);
+        if digests.len() > MAX_GOOD || self.good.is_some() {
+            return Err(Fault::Refused(Refusal::BadList));
         }
-        if self.good.is_some() {
-            return Said::Refused(Refusal::BadList);
-        }
-        match Vec::from_slice(heap, digests) {
-            Ok(good) => {
-                self.good = Some(good);
-                Said::Done
-            }
-            Err(_) => Said::NoMemory,
-        }
+        self.good = Some(Vec::from_slice(heap, digests)?);
+        Ok(Said::Done)
     }
 
-    fn ticks(&mut self, ticks: u32) -> Said
-        ensures { (seat self.new, result) ≡ ticks_of (seat self.old) ticks }
+    fn ticks(&mut self, ticks: u32)
+        ensures { self.new ≡ (ticks_of self.old ticks).0 }
     {
         age(&mut self.questions, ticks);
-        Said::Done
     }
 
-    fn ask(&mut self, chip: u32, draw: Option<Data>) -> Said
-        ensures { (seat self.new, result) ≡ ask_of (found result) (seat self.old) chip draw }
+    fn ask(&mut self, chip: u32, draw: Option<Data>) -> Result<Said, Fault>
+        ensures { (self.new, result) ≡ ask_of (found result) self.old chip draw }
     {
-        if !has_chip(self.chips.as_slice(), chip) {
-            return Said::Refused(Refusal::UnknownChip);
+        if !has_chip(&self.chips, chip) {
+            return Err(Fault::Refused(Refusal::UnknownChip));
         }
-        let Some(data) = draw else {
-            return Said::Refused(Refusal::NoDraws);
-        };
+        let data = draw.ok_or(Refusal::NoDraws)?;
         let question = Question {
             chip,
             data,
             left: PATIENCE,
         };
-        match self.questions.insert(0, question) {
-            Ok(()) => {
-                self.questions.truncate(MAX_QUESTIONS);
-                Said::Asks(chip, data)
-            }
-            Err(_) => Said::NoMemory,
-        }
+        self.questions.insert(0, question)?;
+        self.questions.truncate(MAX_QUESTIONS);
+        Ok(Said::Asks(chip, data))
     }
 
-    fn answer(&mut self, reply: Reply) -> Said
-        ensures { (seat self.new, result) ≡ answer_of (seat self.old) reply }
+    fn answer(&mut self, reply: Reply) -> Result<Said, Fault>
+        ensures { (self.new, result) ≡ answer_of self.old reply }
     {
-        if !has_chip(self.chips.as_slice(), reply.chip) {
-            return Said::Refused(Refusal::UnknownChip);
+        if !has_chip(&self.chips, reply.chip) {
+            return Err(Fault::Refused(Refusal::UnknownChip));
         }
-        let Some(i) = find_question(self.questions.as_slice(), reply.chip, reply.data) else {
-            return Said::Refused(Refusal::NoQuestion);
-        };
-        let Some(list) = find_list(self.lists.as_slice(), reply.list) else {
-            return Said::Refused(Refusal::BadList);
-        };
-        if !reply.signs(list.row) {
-            return Said::Refused(Refusal::BadSignature);
+        let i = find_question(&self.questions, reply.chip, reply.data).ok_or(Refusal::NoQuestion)?;
+        let List { number, row } = find_list(&self.lists, reply.list).ok_or(Refusal::BadList)?;
+        if !reply.signs(row) {
+            return Err(Fault::Refused(Refusal::BadSignature));
         }
         self.questions.remove(i);
-        let flags = flag(self.office_list(), list.row);
-        Said::Accepted(list.number, list.row, flags)
+        let flags = flag(self.office_list(), row);
+        Ok(Said::Accepted(Acceptance {
+            list: number,
+            row,
+            flags,
+        }))
     }
 }
 
@@ -233,9 +216,12 @@ impl Reply {
     fn signs(self, row: Register) -> bool
         ensures { result ≡ signs self row }
     {
-        self.signature.chip == self.chip
-            && self.signature.data.same(self.data)
-            && self.signature.register.same(row)
+        self.signature
+            == Signature {
+                chip: self.chip,
+                data: self.data,
+                register: row,
+            }
     }
 }
 
@@ -243,8 +229,5 @@ impl Reply {
 fn begins(first: Digest, digests: &[Digest]) -> bool
     ensures { result ≡ begins first digests.now }
 {
-    if digests.is_empty() {
-        return false;
-    }
-    same(first, digests[0])
+    digests.first() == Some(&first)
 }

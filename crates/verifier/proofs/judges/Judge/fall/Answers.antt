@@ -1,6 +1,5 @@
 use Rattle.verifier.proofs.judges.Judge.fall.Goals as goal
-use Rattle.verifier.specs.Seats.{seat}
 use Rattle.verifier.proofs.Worlds.{falls}
 
 pub returns : goal.returns
-returns c = record { exact = c.forget.ensures; steps = falls (seat c.args.self.now) _ c.forget.ensures }
+returns c = record { exact = c.forget.ensures; steps = falls c.args.self.now _ c.forget.ensures }

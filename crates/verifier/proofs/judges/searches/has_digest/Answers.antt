@@ -1,12 +1,8 @@
-use Rattle.std.proofs.Common.{rules}
+use Rattle.std.proofs.Common.{◌∙◌}
 use Rattle.verifier.proofs.judges.searches.has_digest.Goals as goal
-use Rattle.verifier.proofs.Searches.{some_hit, some_miss, some_end}
-
-pub returns-then-same : goal.returns-then-same
-returns-then-same c = search (rules, some_hit)
-
-pub loop-i-preserved : goal.loop-i-preserved
-loop-i-preserved c = search (rules, some_miss)
+use Rattle.verifier.specs.Searches.{is_digest}
+use Rattle.verifier.proofs.Searches.{some_any}
+use Rattle.verifier.proofs.Tests.{is_digest_turned}
 
 pub returns : goal.returns
-returns c = search (rules, some_end)
+returns c = c.contains.ensures.value ∙ some_any (is_digest c.args.digest) _ (λ d. is_digest_turned c.args.digest d) c.args.digests.now
