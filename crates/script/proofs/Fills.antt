@@ -1,52 +1,81 @@
 -- The steps of the loops that read a number, and the words of a line.
-use Rattle.std.proofs.Common.{◌≡◌, ℕ, ◌+◌, ◌<◌, ◌≤◌, cond, List, [], ◌∷◌, ◌++◌, length, get_or, drop, Ok, Err, Option, Result, sym, refl, ap, ◌∙◌, Bor}
+use Rattle.std.proofs.Common.{◌≡◌, ℕ, ◌+◌, ◌<◌, ◌≤◌, false, cond, eqb, ok_or, IfOk, Some, None, arith, List, [], ◌∷◌, ◌++◌, length, get_or, drop, Ok, Err, Option, Result, sym, refl, ap, subst, Iter, ◌∙◌, Bor}
 use Rattle.std.proofs.lemmas.List.{at_drop_more, at_drop_all}
+use Rattle.std.proofs.lemmas.Bool.Decides.{nat_tests}
+use Rattle.std.specs.Slice.Iter.{iter_rest, iter_steps}
 use Rattle.script.specs.declared.faults.Fault.{Fault}
 use Rattle.script.specs.declared.faults.Fault.TheVariants.{Unknown, Shape, TooLong, NoNumber, TooMany, NoFleet, NotKept, NoMemory}
-use Rattle.script.specs.declared.lines.Line.{Line}
+use Rattle.script.specs.declared.lines.places.Places.{Places}
 use Rattle.script.specs.declared.lines.Part.{Part}
 use Rattle.script.specs.declared.labels.Label.{Label}
 use Rattle.script.specs.Labels.{label_of, labels_of, met}
 use Rattle.script.specs.Labels as labels
-use Rattle.script.specs.Numbers.{next_of, go_on, digits_of}
+use Rattle.script.specs.Numbers.{next_of, go_on, digits_of, number_of}
+use Rattle.script.proofs.Tries.{and_on, tried}
 use Rattle.script.specs.Forms.{Words}
 use Rattle.script.specs.Lines.{then_on, put_of, filled}
 
-digits_here : (limit n b : ℕ) (bs : List ℕ) → digits_of limit n (b ∷ bs) ≡ go_on (next_of limit n b) (λ m. digits_of limit m bs)
+digits_tried : (limit n : ℕ) (bs : List ℕ) → ok_or (tried (next_of limit) n bs) NoNumber ≡ digits_of limit n bs
 unfolding digits_of
-digits_here limit n b bs = refl
+digits_tried limit n [] = refl
+digits_tried limit n (b ∷ bs) = each (next_of limit n b) (λ m. digits_tried limit m bs)
+  where
+    each : (o : Option ℕ) → ((m : ℕ) → ok_or (tried (next_of limit) m bs) NoNumber ≡ digits_of limit m bs) → ok_or (and_on o (λ m. tried (next_of limit) m bs)) NoNumber ≡ go_on o (λ m. digits_of limit m bs)
+    each None more = refl
+    each (Some m) more = more m
 
-digits_nil : (limit n : ℕ) → digits_of limit n [] ≡ Ok n
-unfolding digits_of
-digits_nil limit n = refl
+-- what the digits come to is the number, and no more than the limit
+pub number_is : (limit : ℕ) (bs : List ℕ) (o : Option ℕ) (r : Result ℕ Fault) → false ≡ eqb (length bs) 0 → o ≡ tried (next_of limit) 0 bs → r ≡ ok_or o NoNumber → r ≡ number_of limit bs
+number_is limit bs o r e h k = k ∙ ap (λ q. ok_or q NoNumber) h ∙ digits_tried limit 0 bs ∙ ap (λ b. cond b (Err NoNumber) (digits_of limit 0 bs)) e
 
--- what the next digit comes to is what is left comes to
-pub digits_next : (limit n : ℕ) (bs : List ℕ) (i d : ℕ) (r : Option ℕ) (t : Result ℕ Fault) → i < length bs → r ≡ next_of limit n (get_or bs i d) → digits_of limit n (drop i bs) ≡ t → go_on r (λ m. digits_of limit m (drop (i + 1) bs)) ≡ t
-digits_next limit n bs i d r t l e inv = ap (λ q. go_on q (λ m. digits_of limit m (drop (i + 1) bs))) e ∙ sym (digits_here limit n (get_or bs i d) (drop (i + 1) bs)) ∙ sym (at_drop_more (digits_of limit n) bs i d l) ∙ inv
+next_within : (limit n b m : ℕ) → Some m ≡ next_of limit n b → m ≤ limit
+next_within limit n b m e = grind (arith, nat_tests)
 
-pub digits_all : (limit n : ℕ) (bs : List ℕ) (i : ℕ) (t : Result ℕ Fault) → length bs ≤ i → digits_of limit n (drop i bs) ≡ t → Ok n ≡ t
-digits_all limit n bs i t l inv = sym (digits_nil limit n) ∙ sym (at_drop_all (digits_of limit n) bs i l) ∙ inv
+tried_within : (limit n : ℕ) (bs : List ℕ) (m : ℕ) → n ≤ limit → Some m ≡ tried (next_of limit) n bs → m ≤ limit
+tried_within limit n [] m l e = let same : m ≡ n = cc in omega arith
+tried_within limit n (b ∷ bs) m l e = each (next_of limit n b) refl e (λ k h i. tried_within limit k bs m h i)
+  where
+    each : (o : Option ℕ) → o ≡ next_of limit n b → Some m ≡ and_on o (λ k. tried (next_of limit) k bs) → ((k : ℕ) → k ≤ limit → Some m ≡ tried (next_of limit) k bs → m ≤ limit) → m ≤ limit
+    each None is i more = cc
+    each (Some k) is i more = more k (next_within limit n b k is) i
 
-filled_here : (l : Line) (p : Part) (ps : List Part) (w : Bor (List ℕ)) (ws : Words) → filled l (p ∷ ps) (w ∷ ws) ≡ then_on (put_of l p w.now) (λ m. filled m ps ws)
+pub number_within : (limit : ℕ) (bs : List ℕ) (o : Option ℕ) (r : Result ℕ Fault) → o ≡ tried (next_of limit) 0 bs → r ≡ ok_or o NoNumber → IfOk r (λ n. n ≤ limit)
+number_within limit bs None r h k = rw k tt
+number_within limit bs (Some m) r h k = rw k (tried_within limit 0 bs m (omega arith) h)
+
+filled_here : (p : Places) (q : Part) (qs : List Part) (w : Bor (List ℕ)) (ws : Words) → filled p (q ∷ qs) (w ∷ ws) ≡ then_on (put_of p q w.now) (λ r. filled r qs ws)
 unfolding filled
-filled_here l p ps w ws = refl
+filled_here p q qs w ws = refl
 
-filled_short : (l : Line) (p : Part) (ps : List Part) → filled l (p ∷ ps) [] ≡ Err Shape
+filled_short : (p : Places) (q : Part) (qs : List Part) → filled p (q ∷ qs) [] ≡ Err Shape
 unfolding filled
-filled_short l p ps = refl
+filled_short p q qs = refl
 
-filled_nil : (l : Line) (ws : Words) → filled l [] ws ≡ Ok l
+filled_nil : (p : Places) (ws : Words) → filled p [] ws ≡ Ok p
 unfolding filled
-filled_nil l ws = refl
+filled_nil p ws = refl
 
-pub filled_next : (l : Line) (ps : List Part) (ws : Words) (i : ℕ) (p : Part) (w : Bor (List ℕ)) (r t : Result Line Fault) → i < length ps → i < length ws → r ≡ put_of l (get_or ps i p) (get_or ws i w).now → filled l (drop i ps) (drop i ws) ≡ t → then_on r (λ m. filled m (drop (i + 1) ps) (drop (i + 1) ws)) ≡ t
-filled_next l ps ws i p w r t lp lw e inv = ap (λ q. then_on q (λ m. filled m (drop (i + 1) ps) (drop (i + 1) ws))) e ∙ sym (filled_here l (get_or ps i p) (drop (i + 1) ps) (get_or ws i w) (drop (i + 1) ws)) ∙ sym (at_drop_more (λ ys. filled l ys (get_or ws i w ∷ drop (i + 1) ws)) ps i p lp) ∙ sym (at_drop_more (λ ys. filled l (drop i ps) ys) ws i w lw) ∙ inv
+-- why a missing word is refused
+pub why_is : {A : Type 0} (o : Option A) (why : Fault) → o ≡ None → Err why ≡ ok_or o Shape → why ≡ Shape
+why_is o why n e = let same : Err why ≡ ok_or {T = _} None Shape = e ∙ ap (λ q. ok_or q Shape) n in cc
 
-pub filled_out : (l : Line) (ps : List Part) (ws : Words) (i : ℕ) (p : Part) (t : Result Line Fault) → i < length ps → length ws ≤ i → filled l (drop i ps) (drop i ws) ≡ t → Err Shape ≡ t
-filled_out l ps ws i p t lp lw inv = sym (filled_short l (get_or ps i p) (drop (i + 1) ps)) ∙ sym (at_drop_more (λ ys. filled l ys []) ps i p lp) ∙ sym (at_drop_all (λ ys. filled l (drop i ps) ys) ws i lw) ∙ inv
+-- what `next` takes from the words that are left
+pub next_none : (s t : Iter (Bor (List ℕ))) (o : Option (Bor (Bor (List ℕ)))) → o ≡ None → iter_steps s o t → length (iter_rest s) ≡ 0
+next_none s t o e h = let k = subst (λ p. iter_steps s p t) e h in k.0
 
-pub filled_all : (l : Line) (ps : List Part) (ws : Words) (i : ℕ) (t : Result Line Fault) → length ps ≤ i → filled l (drop i ps) (drop i ws) ≡ t → Ok l ≡ t
-filled_all l ps ws i t lp inv = sym (filled_nil l (drop i ws)) ∙ sym (at_drop_all (λ ys. filled l ys (drop i ws)) ps i lp) ∙ inv
+pub next_some : (s t : Iter (Bor (List ℕ))) (o : Option (Bor (Bor (List ℕ)))) (w : Bor (Bor (List ℕ))) → o ≡ Some w → iter_steps s o t → iter_rest s ≡ w.now ∷ iter_rest t
+next_some s t o w e h = let k = subst (λ p. iter_steps s p t) e h in k
+
+-- the next part with the next word, no word where a part is left, and no part
+pub filled_next : (p : Places) (qs : List Part) (i : ℕ) (q : Part) (w : Bor (List ℕ)) (ws vs : Words) (r t : Result Places Fault) → i < length qs → ws ≡ w ∷ vs → r ≡ put_of p (get_or qs i q) w.now → filled p (drop i qs) ws ≡ t → then_on r (λ m. filled m (drop (i + 1) qs) vs) ≡ t
+filled_next p qs i q w ws vs r t l s e inv = ap (λ k. then_on k (λ m. filled m (drop (i + 1) qs) vs)) e ∙ sym (filled_here p (get_or qs i q) (drop (i + 1) qs) w vs) ∙ sym (at_drop_more (λ ys. filled p ys (w ∷ vs)) qs i q l) ∙ sym (ap (filled p (drop i qs)) s) ∙ inv
+
+pub filled_out : (p : Places) (qs : List Part) (i : ℕ) (q : Part) (ws : Words) (t : Result Places Fault) → i < length qs → length ws ≡ 0 → filled p (drop i qs) ws ≡ t → Err Shape ≡ t
+filled_out p qs i q [] t l n inv = sym (filled_short p (get_or qs i q) (drop (i + 1) qs)) ∙ sym (at_drop_more (λ ys. filled p ys []) qs i q l) ∙ inv
+filled_out p qs i q (w ∷ ws) t l n inv = absurd (omega arith)
+
+pub filled_all : (p : Places) (qs : List Part) (i : ℕ) (ws : Words) (t : Result Places Fault) → length qs ≤ i → filled p (drop i qs) ws ≡ t → Ok p ≡ t
+filled_all p qs i ws t l inv = sym (filled_nil p ws) ∙ sym (at_drop_all (λ ys. filled p ys ws) qs i l) ∙ inv
 
 labels_here : (ls : List Label) (w : Bor (List ℕ)) (ws : Words) → labels_of ls (w ∷ ws) ≡ labels.go_on (label_of w.now) (λ l. labels_of (ls ++ l ∷ []) ws)
 unfolding labels_of

@@ -1,4 +1,4 @@
-pub mod Looks
-mod Tests
+pub mod Tests
+mod Tries
 mod Fills
 mod Shapes

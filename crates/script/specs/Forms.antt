@@ -4,7 +4,7 @@ use Rattle.std.specs.Borrow.{Bor}
 use Rattle.script.specs.declared.faults.Fault.{Fault}
 use Rattle.script.specs.declared.faults.Fault.TheVariants.{Unknown, Shape}
 use Rattle.script.specs.declared.lines.Part.{Part}
-use Rattle.script.specs.declared.lines.Part.TheVariants.{First, Second, Name, Other, When, Word}
+use Rattle.script.specs.declared.lines.Part.TheVariants.{First, Second, Name, Other, Word}
 use Rattle.script.specs.declared.lines.Part.TheVariants as part
 use Rattle.script.specs.declared.verbs.Key.{Key}
 use Rattle.script.specs.declared.verbs.Key.TheVariants as key
@@ -44,7 +44,7 @@ parts_of Read = First any ∷ []
 parts_of Keep = First any ∷ Name ∷ Word key.For ∷ []
 parts_of Close = First any ∷ Name ∷ Word key.For ∷ []
 parts_of Open = First any ∷ Name ∷ []
-parts_of CutCount = Word key.Count ∷ First any ∷ When ∷ []
+parts_of CutCount = Word key.Count ∷ First any ∷ part.When ∷ []
 parts_of CutClose = Word key.Close ∷ First any ∷ []
 parts_of Chip = First any ∷ Second any ∷ []
 parts_of Good = First any ∷ []
@@ -139,7 +139,7 @@ long_enough v None = false
 long_enough v (Some ws) = cond (open_of v) (nat_le (length (parts_of v)) (length ws)) (length (parts_of v) == length ws)
 
 -- whether these words after the verb can be its line
-unfoldable pub suits_of : Verb → Words → Bool
+abbrev pub suits_of : Verb → Words → Bool
 suits_of v ws = long_enough v (body_of v ws)
 
 -- whether a line that begins with w, and goes on with ws, can be this verb's

@@ -17,7 +17,7 @@ padded bs = record { bytes = bs ++ drop (length bs) (replicate 16 0) }
 abbrev pub label_of : List ℕ → Result Label Fault
 label_of bs = cond (nat_lt 16 (length bs)) (Err TooLong) (Ok (padded bs))
 
-unfoldable pub same_label : Label → Label → Bool
+abbrev pub same_label : Label → Label → Bool
 same_label a b = bytes_eq a.bytes b.bytes
 
 -- one name more

@@ -1,3 +1,4 @@
+pub mod Faults
 pub mod Texts
 pub mod Verbs
 pub mod Labels

@@ -1,14 +1,19 @@
 -- What the words of a line come to.
-use Rattle.std.specs.Prelude.{ℕ, ◌-◌, true, false, cond, List, [], ◌∷◌, length, take, drop, Some, None, Ok, Err, codes, Option, Result, nat_lt}
+use Rattle.std.specs.Prelude.{ℕ, ◌-◌, cond, List, [], ◌∷◌, length, take, drop, Some, None, Ok, Err, codes, Option, Result, nat_lt}
 use Rattle.std.specs.Borrow.{Bor}
 use Rattle.script.specs.declared.faults.Fault.{Fault}
 use Rattle.script.specs.declared.faults.Fault.TheVariants.{Shape}
 use Rattle.script.specs.declared.labels.Label.{Label}
 use Rattle.script.specs.declared.lines.Line.{Line}
+use Rattle.script.specs.declared.lines.Line.TheVariants as line
+use Rattle.script.specs.declared.lines.When.{When}
+use Rattle.script.specs.declared.lines.When.TheVariants.{Before, After}
+use Rattle.script.specs.declared.lines.places.Places.{Places}
 use Rattle.script.specs.declared.lines.Part.{Part}
-use Rattle.script.specs.declared.lines.Part.TheVariants.{First, Second, Name, Other, When, Word}
+use Rattle.script.specs.declared.lines.Part.TheVariants.{First, Second, Name, Other, Word}
 use Rattle.script.specs.declared.lines.Part.TheVariants as part
 use Rattle.script.specs.declared.verbs.Verb.{Verb}
+use Rattle.script.specs.declared.verbs.Verb.TheVariants as verb
 use Rattle.script.specs.declared.verbs.Key.{Key}
 use Rattle.script.specs.Texts.{same_text}
 use Rattle.script.specs.Verbs.{verbs, key_text}
@@ -22,52 +27,86 @@ then_on (Ok x) f = f x
 then_on (Err e) f = Err e
 
 -- nothing was read yet
-abbrev pub blank : Verb → Line
-blank v = record { verb = v; first = 0; second = 0; list = 0; after = false; name = no_label; other = no_label }
+abbrev pub blank : Places
+blank = record { first = 0; second = 0; list = 0; when = Before; name = no_label; other = no_label }
 
-abbrev pub with_first : Line → ℕ → Line
-with_first l n = record { verb = l.verb; first = n; second = l.second; list = l.list; after = l.after; name = l.name; other = l.other }
+abbrev pub with_first : Places → ℕ → Places
+with_first p n = record p { first = n }
 
-abbrev pub with_second : Line → ℕ → Line
-with_second l n = record { verb = l.verb; first = l.first; second = n; list = l.list; after = l.after; name = l.name; other = l.other }
+abbrev pub with_second : Places → ℕ → Places
+with_second p n = record p { second = n }
 
-abbrev pub with_list : Line → ℕ → Line
-with_list l n = record { verb = l.verb; first = l.first; second = l.second; list = n; after = l.after; name = l.name; other = l.other }
+abbrev pub with_list : Places → ℕ → Places
+with_list p n = record p { list = n }
 
-abbrev pub with_after : Line → Line
-with_after l = record { verb = l.verb; first = l.first; second = l.second; list = l.list; after = true; name = l.name; other = l.other }
+abbrev pub with_when : Places → When → Places
+with_when p t = record p { when = t }
 
-abbrev pub with_name : Line → Label → Line
-with_name l n = record { verb = l.verb; first = l.first; second = l.second; list = l.list; after = l.after; name = n; other = l.other }
+abbrev pub with_name : Places → Label → Places
+with_name p l = record p { name = l }
 
-abbrev pub with_other : Line → Label → Line
-with_other l n = record { verb = l.verb; first = l.first; second = l.second; list = l.list; after = l.after; name = l.name; other = n }
+abbrev pub with_other : Places → Label → Places
+with_other p l = record p { other = l }
 
--- the line with the word that stands at a part
-abbrev pub put_of : Line → Part → List ℕ → Result Line Fault
-put_of l (First limit) w = then_on (number_of limit w) (λ n. Ok (with_first l n))
-put_of l (Second limit) w = then_on (number_of limit w) (λ n. Ok (with_second l n))
-put_of l part.List w = then_on (number_of 65535 w) (λ n. Ok (with_list l n))
-put_of l Name w = then_on (label_of w) (λ n. Ok (with_name l n))
-put_of l Other w = then_on (label_of w) (λ n. Ok (with_other l n))
-put_of l When w = cond (same_text w (codes "before")) (Ok l) (cond (same_text w (codes "after")) (Ok (with_after l)) (Err Shape))
-put_of l (Word k) w = cond (same_text w (key_text k)) (Ok l) (Err Shape)
+abbrev pub when_of : List ℕ → Result When Fault
+when_of w = cond (same_text w (codes "before")) (Ok Before) (cond (same_text w (codes "after")) (Ok After) (Err Shape))
+
+-- the places with the word that stands at a part
+abbrev pub put_of : Places → Part → List ℕ → Result Places Fault
+put_of p (First limit) w = then_on (number_of limit w) (λ n. Ok (with_first p n))
+put_of p (Second limit) w = then_on (number_of limit w) (λ n. Ok (with_second p n))
+put_of p part.List w = then_on (number_of 65535 w) (λ n. Ok (with_list p n))
+put_of p Name w = then_on (label_of w) (λ n. Ok (with_name p n))
+put_of p Other w = then_on (label_of w) (λ n. Ok (with_other p n))
+put_of p part.When w = then_on (when_of w) (λ t. Ok (with_when p t))
+put_of p (Word k) w = cond (same_text w (key_text k)) (Ok p) (Err Shape)
 
 -- word after word
-unfoldable pub filled : Line → List Part → Words → Result Line Fault
-filled l [] ws = Ok l
-filled l (p ∷ ps) [] = Err Shape
-filled l (p ∷ ps) (w ∷ ws) = then_on (put_of l p w.now) (λ m. filled m ps ws)
+unfoldable pub filled : Places → List Part → Words → Result Places Fault
+filled p [] ws = Ok p
+filled p (q ∷ qs) [] = Err Shape
+filled p (q ∷ qs) (w ∷ ws) = then_on (put_of p q w.now) (λ r. filled r qs ws)
 
 -- the name after the suffix
-abbrev pub ended_of : Line → Option Key → Words → Result Line Fault
-ended_of l None ws = Ok l
-ended_of l (Some k) ws = cond (nat_lt (length ws) 1) (Err Shape) (put_of l Other (word_at ws (length ws - 1)))
+abbrev pub ended_of : Places → Option Key → Words → Result Places Fault
+ended_of p None ws = Ok p
+ended_of p (Some k) ws = cond (nat_lt (length ws) 1) (Err Shape) (put_of p Other (word_at ws (length ws - 1)))
+
+-- the line of a verb with these places
+abbrev pub line_of : Verb → Places → Line
+line_of verb.Fleet p = line.Fleet p.first p.second
+line_of verb.Wipe p = line.Wipe
+line_of verb.File p = line.File p.name None
+line_of verb.FileThen p = line.File p.name (Some p.other)
+line_of verb.List p = line.List p.name None
+line_of verb.ListFurther p = line.List p.name (Some p.other)
+line_of verb.Switch p = line.Switch p.first
+line_of verb.Start p = line.Start p.first p.name
+line_of verb.Load p = line.Load p.first p.name
+line_of verb.Put p = line.Put p.first p.name
+line_of verb.Run p = line.Run p.first p.name
+line_of verb.Sign p = line.Sign p.first p.name p.other
+line_of verb.Count p = line.Count p.first
+line_of verb.Read p = line.Read p.first
+line_of verb.Keep p = line.Keep p.first p.name p.other
+line_of verb.Close p = line.Close p.first p.name p.other
+line_of verb.Open p = line.Open p.first p.name
+line_of verb.CutCount p = line.CutCount p.first p.when
+line_of verb.CutClose p = line.CutClose p.first
+line_of verb.Chip p = line.Chip p.first p.second
+line_of verb.Good p = line.Good p.first
+line_of verb.Rows p = line.Rows p.first p.list
+line_of verb.Ticks p = line.Ticks p.first p.second
+line_of verb.Ask p = line.Ask p.first p.second p.name
+line_of verb.Answer p = line.Answer p.first p.second p.name p.list p.other
+line_of verb.Fall p = line.Fall p.first
+line_of verb.Net p = line.Net p.first p.second
+line_of verb.Has p = line.Has p.name
 
 -- the parts, then the programs, then the suffix
 abbrev pub parted : Verb → Words → Option Words → Result (Line × Words) Fault
 parted v ws None = Err Shape
-parted v ws (Some body) = cond (nat_lt (length body) (length (parts_of v))) (Err Shape) (then_on (filled (blank v) (parts_of v) (take (length (parts_of v)) body)) (λ l. then_on (ended_of l (suffix_of v) ws) (λ m. Ok (m, drop (length (parts_of v)) body))))
+parted v ws (Some body) = cond (nat_lt (length body) (length (parts_of v))) (Err Shape) (then_on (filled blank (parts_of v) (take (length (parts_of v)) body)) (λ p. then_on (ended_of p (suffix_of v) ws) (λ q. Ok (line_of v q, drop (length (parts_of v)) body))))
 
 abbrev pub read_as : Verb → Words → Result (Line × Words) Fault
 read_as v ws = parted v ws (body_of v ws)

@@ -2,5 +2,5 @@
 use Rattle.std.specs.Prelude.{ℕ, Bool, List}
 use Rattle.std.specs.Str.{bytes_eq}
 
-unfoldable pub same_text : List ℕ → List ℕ → Bool
+abbrev pub same_text : List ℕ → List ℕ → Bool
 same_text a b = bytes_eq a b

@@ -1,42 +1,42 @@
 //! Names in a script.
 
 ghost use Rattle.std.specs.Prelude.{◌≡◌, [], if◌then◌else◌, Err};
-ghost use Rattle.script.specs.Labels.{no_label, label_of, same_label, labels_of, listed, met};
+ghost use Rattle.script.specs.Labels.{no_label, label_of, labels_of, listed, met};
 ghost use Rattle.script.specs.declared.faults.Fault.TheVariants.{NoMemory};
 
 use crate::faults::Fault;
 use std::alloc::Global;
+use std::str::FromStr;
 
 /// A word of at most sixteen bytes, padded with zeros.
-#[derive(Clone, Copy)]
+// Fixed memory, as names on a disk have it: a name is copied into them, and needs no heap.
+#[derive(Clone, Copy, Debug, PartialEq, Eq)]
 pub struct Label {
     pub bytes: [u8; 16],
 }
 
-impl Label {
-    pub fn empty() -> Label
-        ensures { result ≡ no_label }
-    {
+impl Default for Label {
+    ghost is_default = { λ label. label ≡ no_label };
+
+    fn default() -> Label {
         Label { bytes: [0; 16] }
     }
+}
 
-    pub fn of(word: &str) -> Result<Label, Fault>
-        ensures { result ≡ label_of word.now }
-    {
+impl FromStr for Label {
+    type Err = Fault;
+
+    ghost from_str_gives = { λ word result. result ≡ label_of word };
+
+    fn from_str(word: &str) -> Result<Label, Fault> {
         let text = word.as_bytes();
         let n = text.len();
         if n > 16 {
             return Err(Fault::TooLong);
         }
         let mut bytes = [0; 16];
-        bytes[0..n].copy_from_slice(text);
+        bytes[..n].copy_from_slice(text);
         Ok(Label { bytes })
-    }
-
-    pub fn same(self, other: Label) -> bool
-        ensures { result ≡ same_label self other }
-    {
-        self.bytes == other.bytes
     }
 }
 
@@ -45,14 +45,28 @@ pub fn labels(heap: Global, words: &[&str]) -> Result<Vec<Label>, Fault>
     ensures { listed result ≡ (if met result then labels_of [] words.now else Err NoMemory) }
 {
     let mut labels = Vec::new(heap);
-    for i in 0..words.len() {
-        let label = match Label::of(words[i]) {
-            Ok(label) => label,
-            Err(why) => return Err(why),
-        };
-        if labels.push(label).is_err() {
-            return Err(Fault::NoMemory);
-        }
+    for word in words {
+        labels.push(word.parse()?)?;
     }
     Ok(labels)
+}
+
+#[cfg(test)]
+mod tests {
+    use super::*;
+
+    #[test]
+    fn words_become_names(rt: HostRuntime) -> Result<(), Fault> {
+        let names = labels(rt.alloc(), &["p", "name-of-16-bytes"])?;
+        assert_eq!(rt; names.len(), 2);
+        assert_eq!(rt; names[0], "p".parse()?);
+        assert_eq!(rt; &names[1].bytes, b"name-of-16-bytes");
+        Ok(())
+    }
+
+    #[test]
+    fn a_long_word_is_no_name(rt: HostRuntime) {
+        let word = "a-name-of-seventeen-bytes".parse::<Label>();
+        assert_eq!(rt; word, Err(Fault::TooLong));
+    }
 }

@@ -6,5 +6,4 @@ pub mod faults;
 pub mod labels;
 pub mod lines;
 pub mod numbers;
-pub mod texts;
 pub mod verbs;

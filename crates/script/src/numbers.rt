@@ -10,18 +10,12 @@ pub fn number(word: &str, limit: u32) -> Result<u32, Fault>
     ensures exact { result ≡ number_of limit word.now }
     ensures within { IfOk result (λ n. n ≤ limit) }
 {
-    let digits = word.as_bytes();
-    if digits.is_empty() {
+    if word.is_empty() {
         return Err(Fault::NoNumber);
     }
-    let mut n = 0;
-    for i in 0..digits.len() {
-        match next(n, digits[i], limit) {
-            Some(more) => n = more,
-            None => return Err(Fault::NoNumber),
-        }
-    }
-    Ok(n)
+    word.bytes()
+        .try_fold(0, |n, digit| next(n, digit, limit))
+        .ok_or(Fault::NoNumber)
 }
 
 /// The number with one digit more.
@@ -29,12 +23,9 @@ fn next(n: u32, digit: u8, limit: u32) -> Option<u32>
     ensures exact { result ≡ next_of limit n digit }
     ensures within { IfSome result (λ m. m ≤ limit) }
 {
-    if digit < b'0' || digit > b'9' {
+    if !digit.is_ascii_digit() {
         return None;
     }
-    let more = u64::from(n) * 10 + u64::from(digit - b'0');
-    if more > u64::from(limit) {
-        return None;
-    }
-    Some(more as u32)
+    let more = n.checked_mul(10)?.checked_add(u32::from(digit - b'0'))?;
+    if more <= limit { Some(more) } else { None }
 }

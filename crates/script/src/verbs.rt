@@ -1,10 +1,10 @@
 //! The words that have a meaning of their own in a script.
 
 ghost use Rattle.std.specs.Prelude.{◌≡◌};
-ghost use Rattle.script.specs.Verbs.{verb_text, key_text, verbs};
+ghost use Rattle.script.specs.Verbs.{verb_text, key_text};
 
 /// What a line asks for: its first word, where one word has several forms also which of them.
-#[derive(Clone, Copy)]
+#[derive(Clone, Copy, Debug, PartialEq, Eq)]
 pub enum Verb {
     Fleet,
     Wipe,
@@ -37,7 +37,7 @@ pub enum Verb {
 }
 
 /// A word that stands inside a line.
-#[derive(Clone, Copy)]
+#[derive(Clone, Copy, Debug, PartialEq, Eq)]
 pub enum Key {
     Then,
     Further,
@@ -50,40 +50,36 @@ pub enum Key {
 
 impl Verb {
     /// Every verb; of two with one word that with a suffix comes first.
-    pub fn all() -> [Verb; 28]
-        ensures { result ≡ verbs }
-    {
-        [
-            Verb::Fleet,
-            Verb::Wipe,
-            Verb::FileThen,
-            Verb::File,
-            Verb::ListFurther,
-            Verb::List,
-            Verb::Switch,
-            Verb::Start,
-            Verb::Load,
-            Verb::Put,
-            Verb::Run,
-            Verb::Sign,
-            Verb::Count,
-            Verb::Read,
-            Verb::Keep,
-            Verb::Close,
-            Verb::Open,
-            Verb::CutCount,
-            Verb::CutClose,
-            Verb::Chip,
-            Verb::Good,
-            Verb::Rows,
-            Verb::Ticks,
-            Verb::Ask,
-            Verb::Answer,
-            Verb::Fall,
-            Verb::Net,
-            Verb::Has,
-        ]
-    }
+    pub const ALL: &'static [Verb] = &[
+        Verb::Fleet,
+        Verb::Wipe,
+        Verb::FileThen,
+        Verb::File,
+        Verb::ListFurther,
+        Verb::List,
+        Verb::Switch,
+        Verb::Start,
+        Verb::Load,
+        Verb::Put,
+        Verb::Run,
+        Verb::Sign,
+        Verb::Count,
+        Verb::Read,
+        Verb::Keep,
+        Verb::Close,
+        Verb::Open,
+        Verb::CutCount,
+        Verb::CutClose,
+        Verb::Chip,
+        Verb::Good,
+        Verb::Rows,
+        Verb::Ticks,
+        Verb::Ask,
+        Verb::Answer,
+        Verb::Fall,
+        Verb::Net,
+        Verb::Has,
+    ];
 
     /// The first word of its line.
     pub fn text(self) -> &'static str

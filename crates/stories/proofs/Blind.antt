@@ -1,10 +1,8 @@
 -- What an event leaves alone: a part of the fleet that machines, disk and what is heard are no part of changes only where a judge does, or, where it has the signatures, where a chip signs.
-use Rattle.std.proofs.Common.{◌≡◌, ℕ, Bool, true, false, cond, ltb, ◌⊎◌, List, length, Some, None, Option, refl, ◌∙◌, inl, inr}
-use Rattle.device.specs.declared.chips.Answer.{Answer}
-use Rattle.device.specs.declared.chips.Answer.TheVariants as answer
-use Rattle.device.specs.declared.chips.Chip.{Chip}
+use Rattle.std.proofs.Common.{◌≡◌, ℕ, Bool, true, false, cond, ltb, ◌⊎◌, List, length, Some, None, Option, Ok, Err, Result, refl, ◌∙◌, inl, inr}
 use Rattle.device.specs.declared.chips.Command.TheVariants as command
 use Rattle.device.specs.declared.digests.Data.{Data}
+use Rattle.device.specs.declared.refusals.Refusal.{Refusal}
 use Rattle.device.specs.declared.registers.Register.{Register}
 use Rattle.device.specs.Commands as chip
 use Rattle.device.specs.Rows.{pushed}
@@ -12,11 +10,12 @@ use Rattle.boot.specs.declared.disks.Entry.{Entry}
 use Rattle.boot.specs.declared.machines.Machine.{Machine}
 use Rattle.fleet.specs.declared.fleets.Act.{Act}
 use Rattle.fleet.specs.declared.fleets.Act.TheVariants.{Switch, Start, Load, Give, Keep, Run, CutCount, CutClose}
+use Rattle.fleet.specs.declared.fleets.Fault.{Fault}
+use Rattle.fleet.specs.declared.fleets.Fault.TheVariants.{Nobody}
 use Rattle.fleet.specs.declared.fleets.Report.{Report}
-use Rattle.fleet.specs.declared.fleets.Report.TheVariants.{Nobody}
 use Rattle.fleet.specs.Sights.{Sight, with_machine, with_disk, hearing, showing, shown_by, tainted, opening_told, running, acted, machine_at}
 
-pub view_cond : {A : Type 0} (f : Sight → A) (x : A) (b : Bool) (p q : Sight × Report) → f p.0 ≡ x → f q.0 ≡ x → f (cond b p q).0 ≡ x
+pub view_cond : {A : Type 0} (f : Sight → A) (x : A) (b : Bool) (p q : Sight × Result Report Fault) → f p.0 ≡ x → f q.0 ≡ x → f (cond b p q).0 ≡ x
 view_cond f x true p q e g = e
 view_cond f x false p q e g = g
 
@@ -25,20 +24,16 @@ abbrev pub Blind : {A : Type 0} → (Sight → A) → Bool → Sight → ℕ →
 Blind f m s i a t = (f t ≡ f s) ⊎ ((d : Data) × (a ≡ Give (command.Sign d)) × (ltb i (length s.machines) ≡ true) × (m ≡ true) × (t ≡ showing (shown_by (machine_at s i) d) (with_machine i (machine_at s i) s)))
 
 module _ {A : Type 0} (f : Sight → A) (at_machine : (i : ℕ) (x : Machine) (s : Sight) → f (with_machine i x s) ≡ f s) (at_disk : (es : List Entry) (s : Sight) → f (with_disk es s) ≡ f s) (at_heard : (d : Data) (s : Sight) → f (hearing d s) ≡ f s) where
-  opening_blind : (b : Bool) (i : ℕ) (s : Sight) (x : Machine) (r : Chip × Answer) → f (opening_told b i s x r).0 ≡ f s
-  opening_blind b i s x (c, answer.Opened d) = view_cond f (f s) b _ _ (at_heard d _ ∙ at_machine i _ s) (at_machine i _ s)
-  opening_blind b i s x (c, answer.Done) = at_machine i _ s
-  opening_blind b i s x (c, answer.Signed g) = at_machine i _ s
-  opening_blind b i s x (c, answer.Counter n) = at_machine i _ s
-  opening_blind b i s x (c, answer.Closed y) = at_machine i _ s
-  opening_blind b i s x (c, answer.Now n r) = at_machine i _ s
-  opening_blind b i s x (c, answer.Refused k) = at_machine i _ s
+  opening_blind : (b : Bool) (i : ℕ) (s : Sight) (x : Machine) (r : Result Data Refusal) → f (opening_told b i s x r).0 ≡ f s
+  opening_blind true i s x (Ok d) = at_heard d _ ∙ at_machine i x s
+  opening_blind false i s x (Ok d) = at_machine i x s
+  opening_blind b i s x (Err k) = at_machine i x s
 
   running_blind : (i : ℕ) (s : Sight) (x : Machine) (r : Option Register) → f (running i s x r).0 ≡ f s
   running_blind i s x None = refl
   running_blind i s x (Some r) = at_machine i _ s
 
-  pub act_blind : (m : Bool) (s : Sight) (i : ℕ) (a : Act) (b : Bool) → ltb i (length s.machines) ≡ b → Blind f m s i a (cond b (acted m i s (machine_at s i) a) (s, Nobody)).0
+  pub act_blind : (m : Bool) (s : Sight) (i : ℕ) (a : Act) (b : Bool) → ltb i (length s.machines) ≡ b → Blind f m s i a (cond b (acted m i s (machine_at s i) a) (s, Err Nobody)).0
   act_blind m s i a false e = inl refl
   act_blind m s i Switch true e = inl (at_machine i _ s)
   act_blind m s i (Start n) true e = inl (at_disk _ _ ∙ at_machine i _ s)

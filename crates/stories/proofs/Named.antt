@@ -1,5 +1,5 @@
 -- Every question that is open asks with something that was drawn.
-use Rattle.std.proofs.Common.{◌≡◌, ℕ, zero, suc, ◌+◌, ◌<◌, Bool, true, false, cond, eqb, ltb, List, [], ◌∷◌, ◌++◌, length, get_or, take, drop, is_some, Some, None, Option, sym, refl, ap, subst, inl, inr, arith}
+use Rattle.std.proofs.Common.{◌≡◌, ℕ, zero, suc, ◌+◌, ◌<◌, Bool, true, false, cond, eqb, ltb, List, [], ◌∷◌, ◌++◌, length, get_or, take, drop, is_some, Some, None, Option, Ok, Err, Result, sym, refl, ap, subst, inl, inr, arith}
 use Rattle.std.proofs.lemmas.Bool.{and_parts}
 use Rattle.device.specs.declared.digests.Data.{Data}
 use Rattle.device.specs.declared.digests.Digest.{Digest}
@@ -8,6 +8,7 @@ use Rattle.device.specs.declared.registers.Register.{Register}
 use Rattle.device.specs.Things.{same_data}
 use Rattle.device.proofs.Things.{same_data_decides}
 use Rattle.model.specs.World.{World}
+use Rattle.verifier.specs.declared.judges.Fault.{Fault as JudgeFault}
 use Rattle.verifier.specs.declared.judges.List as list
 use Rattle.verifier.specs.declared.judges.Question.{Question}
 use Rattle.verifier.specs.declared.judges.Reply.{Reply}
@@ -18,11 +19,13 @@ use Rattle.verifier.specs.declared.judges.Word.TheVariants as word
 use Rattle.verifier.specs.Ages.{older, aged}
 use Rattle.verifier.specs.Searches.{some, seek, place, has_number, asks}
 use Rattle.verifier.specs.Rows.{gathered}
-use Rattle.verifier.specs.Seats.{Seat, new_seat, new_question, begins, signs, list_by, ask_by, answer_by, answer_at, answer_of, office_of, net_of}
+use Rattle.verifier.specs.Seats.{Seat, new_seat, new_question, begins, signs, list_by, ask_by, answer_by, answer_at, answer_of, office_of, net_of, refused}
 use Rattle.fleet.specs.declared.fleets.Event.{Event}
 use Rattle.fleet.specs.declared.fleets.Event.TheVariants.{At, Office, Net, Fall, Write, Wipe}
 use Rattle.fleet.specs.declared.fleets.Report.{Report}
-use Rattle.fleet.specs.declared.fleets.Report.TheVariants.{Done, Nobody, NoMemory}
+use Rattle.fleet.specs.declared.fleets.Fault.{Fault}
+use Rattle.fleet.specs.declared.fleets.Fault.TheVariants.{Nobody, NoMemory}
+use Rattle.fleet.specs.declared.fleets.Report.TheVariants.{Done}
 use Rattle.fleet.specs.Runs.{Allowed}
 use Rattle.fleet.specs.Sights.{Sight, seat_at, with_seat, judged, played}
 use Rattle.fleet.specs.Worlds.{Setting, WordAllowed}
@@ -70,7 +73,7 @@ drawn_aged o n (q ∷ qs) f = by (ltb n q.left) (drawn_aged o n qs f.1)
     by true rest = (f.0, rest)
     by false rest = rest
 
-drawn_cond : (o : Setting) (b : Bool) (p q : Seat × Said) → Drawn o p.0 → Drawn o q.0 → Drawn o (cond b p q).0
+drawn_cond : (o : Setting) (b : Bool) (p q : Seat × Result Said JudgeFault) → Drawn o p.0 → Drawn o q.0 → Drawn o (cond b p q).0
 drawn_cond o true p q f g = f
 drawn_cond o false p q f g = g
 
@@ -93,7 +96,7 @@ module _ (o : Setting) (d : Seat) (f : Drawn o d) where
   drawn_ask a ds None w h = drawn_cond o (some (eqb a) d.chips) _ _ f f
   drawn_ask a ds (Some c) w h = by (some (eqb a) d.chips) h
     where
-      by : (b : Bool) → WordAllowed o (word.Ask a) (cond b (ask_by true d a (Some c)) (d, said.Refused refusal.UnknownChip)).1 w → Drawn o (cond b (ask_by true d a (Some c)) (d, said.Refused refusal.UnknownChip)).0
+      by : (b : Bool) → WordAllowed o (word.Ask a) (cond b (ask_by true d a (Some c)) (refused d refusal.UnknownChip)).1 w → Drawn o (cond b (ask_by true d a (Some c)) (refused d refusal.UnknownChip)).0
       by true g = all_take (λ q. IsDrawn o q.«data») 64 (new_question a c ∷ d.questions) ((_, g a c refl), f)
       by false g = f
 
@@ -133,12 +136,9 @@ Named o s = (j : ℕ) → j < length s.seats → Drawn o (seat_at s j)
 reseated : (o : Setting) (s : Sight) (j : ℕ) (e : Seat) → j < length s.seats → Named o s → Drawn o e → Named o (with_seat j e s)
 reseated o s j e below f g = set_each (λ d _. Drawn o d) (new_seat s.first) s.seats j e below g (λ k _ short. f k short)
 
-judged_named : (o : Setting) (s : Sight) (j : ℕ) (x : Word) (r : Seat × Said) → j < length s.seats → Named o s → Drawn o r.0 → Named o (judged j s x r).0
-judged_named o s j x (d, said.Done) below f g = reseated o s j d below f g
-judged_named o s j x (d, said.Asks a q) below f g = reseated o s j d below f g
-judged_named o s j x (d, said.Accepted n r h) below f g = reseated o s j d below f g
-judged_named o s j x (d, said.Refused k) below f g = reseated o s j d below f g
-judged_named o s j x (d, said.NoMemory) below f g = reseated o s j d below f g
+judged_named : (o : Setting) (s : Sight) (j : ℕ) (x : Word) (r : Seat × Result Said JudgeFault) → j < length s.seats → Named o s → Drawn o r.0 → Named o (judged j s x r).0
+judged_named o s j x (d, Ok y) below f g = reseated o s j d below f g
+judged_named o s j x (d, Err k) below f g = reseated o s j d below f g
 
 -- the judges, and the first program that they know
 abbrev bench : Sight → List Seat × Digest
@@ -155,18 +155,18 @@ named_next o m s (At i a) ds w h f = by (act_blind bench (λ _ _ _. refl) (λ _ 
     by (inr (_, _, _, _, is)) = unchanged o s (played m s (At i a) ds).0 (ap bench is) f
 named_next o m s (Office j x q) ds w h f = by (ltb j (length s.seats)) refl m h
   where
-    by : (b : Bool) → ltb j (length s.seats) ≡ b → (m : Bool) → (b ≡ true → m ≡ true → WordAllowed o x (office_of true (seat_at s j) x ds q).1 w) → Named o (cond b (cond m (judged j s x (office_of true (seat_at s j) x ds q)) (s, NoMemory)) (s, Nobody)).0
+    by : (b : Bool) → ltb j (length s.seats) ≡ b → (m : Bool) → (b ≡ true → m ≡ true → WordAllowed o x (office_of true (seat_at s j) x ds q).1 w) → Named o (cond b (cond m (judged j s x (office_of true (seat_at s j) x ds q)) (s, Err NoMemory)) (s, Err Nobody)).0
     by true e true g = let below = in_range j _ e in judged_named o s j x _ below f (drawn_office o (seat_at s j) (f j below) x ds q w (g refl refl))
     by true e false g = f
     by false e n g = f
 named_next o m s (Net j x) ds w h f = by (ltb j (length s.seats)) refl
   where
-    by : (b : Bool) → ltb j (length s.seats) ≡ b → Named o (cond b (judged j s x (net_of (seat_at s j) x)) (s, Nobody)).0
+    by : (b : Bool) → ltb j (length s.seats) ≡ b → Named o (cond b (judged j s x (net_of (seat_at s j) x)) (s, Err Nobody)).0
     by true e = let below = in_range j _ e in judged_named o s j x _ below f (drawn_net o (seat_at s j) (f j below) x)
     by false e = f
 named_next o m s (Fall j) ds w h f = by (ltb j (length s.seats)) refl
   where
-    by : (b : Bool) → ltb j (length s.seats) ≡ b → Named o (cond {A = Sight × Report} b (with_seat j (new_seat (seat_at s j).first) s, Done) (s, Nobody)).0
+    by : (b : Bool) → ltb j (length s.seats) ≡ b → Named o (cond {A = Sight × Result Report Fault} b (with_seat j (new_seat (seat_at s j).first) s, Ok Done) (s, Err Nobody)).0
     by true e = reseated o s j (new_seat (seat_at s j).first) (in_range j _ e) f tt
     by false e = f
 named_next o true s (Write n g k) ds w h f = f

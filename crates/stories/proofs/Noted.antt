@@ -1,5 +1,5 @@
 -- Every signature that outsiders can have was noted when the chip gave it out.
-use Rattle.std.proofs.Common.{◌≡◌, ℕ, Bool, true, false, cond, ◌&&◌, ltb, ◌⊎◌, List, [], ◌∷◌, length, Some, None, Option, sym, refl, ap, subst, inl, inr}
+use Rattle.std.proofs.Common.{◌≡◌, ℕ, Bool, true, false, cond, ◌&&◌, ltb, ◌⊎◌, List, [], ◌∷◌, length, Some, None, Option, Ok, Err, Result, sym, refl, ap, subst, inl, inr}
 use mathlib.Core.List.{Memᴰ}
 use Rattle.model.specs.Term as term
 use Rattle.model.specs.Term.{Term}
@@ -15,6 +15,7 @@ use Rattle.device.specs.Rows.{words}
 use Rattle.boot.specs.declared.machines.Machine.{Machine}
 use Rattle.boot.specs.Starts.{start_of, ask_of}
 use Rattle.boot.specs.Worlds.{after_row}
+use Rattle.verifier.specs.declared.judges.Fault.{Fault as JudgeFault}
 use Rattle.verifier.specs.declared.judges.Said.{Said}
 use Rattle.verifier.specs.declared.judges.Said.TheVariants as said
 use Rattle.verifier.specs.declared.judges.Word.{Word}
@@ -60,9 +61,9 @@ row_heard : (a : ℕ) (ps : List term.Digest) (w : World) → (after_row a ps w)
 row_heard a [] w = refl
 row_heard a (p ∷ ps) w = row_heard a ps w
 
-load_heard : (i : ℕ) (r : Machine × Option Refusal) (w : World) → (after_load i r w).heard ≡ w.heard
-load_heard i (x, None) w = refl
-load_heard i (x, Some k) w = refl
+load_heard : (i : ℕ) (r : Result Machine Refusal) (w : World) → (after_load i r w).heard ≡ w.heard
+load_heard i (Ok x) w = refl
+load_heard i (Err k) w = refl
 
 opened_adds : (o : Setting) (xs : List Shown) (b : Bool) (i : ℕ) (x : Machine) (y : value.Thing) (w : World) (f : Bool) (h : f ≡ true → Brought o i y w) → Adds o xs w (opened_by o b i x y w f h)
 opened_adds o xs true i x y w true h = inr ((h refl).thing.what, refl, subst (λ u. Safe Free (Noted o xs) u) (sym (h refl).inside) (plain o xs (o.names y.content.«data».bytes)))
@@ -89,30 +90,27 @@ act_adds o xs m i s x CutClose w h g = inl (heard_cond w.heard (may_close x) _ _
 
 -- ---- words to a judge
 
-done_heard : (x : Said) (v w : World) → v.heard ≡ w.heard → (when_done x v w).heard ≡ w.heard
-done_heard said.Done v w e = e
-done_heard (said.Asks a q) v w e = refl
-done_heard (said.Accepted n r f) v w e = refl
-done_heard (said.Refused k) v w e = refl
-done_heard said.NoMemory v w e = refl
+done_heard : (x : Result Said JudgeFault) (v w : World) → v.heard ≡ w.heard → (when_done x v w).heard ≡ w.heard
+done_heard (Ok said.Done) v w e = e
+done_heard (Ok (said.Asks a q)) v w e = refl
+done_heard (Ok (said.Accepted z)) v w e = refl
+done_heard (Err k) v w e = refl
 
-word_adds : (o : Setting) (xs : List Shown) (j : ℕ) (d : Seat) (x : Word) (ds : List Digest) (r : Seat × Said) (w : World) → Adds o xs w (after_word o j d x ds r w)
-word_adds o xs j d (word.Ask a) ds (e, said.Asks b q) w = inr (_, refl, tt)
-word_adds o xs j d (word.Ask a) ds (e, said.Done) w = inl refl
-word_adds o xs j d (word.Ask a) ds (e, said.Accepted n r f) w = inl refl
-word_adds o xs j d (word.Ask a) ds (e, said.Refused k) w = inl refl
-word_adds o xs j d (word.Ask a) ds (e, said.NoMemory) w = inl refl
+word_adds : (o : Setting) (xs : List Shown) (j : ℕ) (d : Seat) (x : Word) (ds : List Digest) (r : Seat × Result Said JudgeFault) (w : World) → Adds o xs w (after_word o j d x ds r w)
+word_adds o xs j d (word.Ask a) ds (e, Ok (said.Asks b q)) w = inr (_, refl, tt)
+word_adds o xs j d (word.Ask a) ds (e, Ok said.Done) w = inl refl
+word_adds o xs j d (word.Ask a) ds (e, Ok (said.Accepted z)) w = inl refl
+word_adds o xs j d (word.Ask a) ds (e, Err k) w = inl refl
 word_adds o xs j d (word.List n) ds r w = inl (done_heard r.1 _ w refl)
 word_adds o xs j d word.Good ds r w = inl refl
 word_adds o xs j d (word.Chip a) ds r w = inl (done_heard r.1 _ w refl)
 word_adds o xs j d (word.Ticks n) ds r w = inl refl
-word_adds o xs j d (word.Answer p) ds (e, said.Done) w = inl refl
-word_adds o xs j d (word.Answer p) ds (e, said.Asks b q) w = inl refl
-word_adds o xs j d (word.Answer p) ds (e, said.Accepted n r f) w = inl refl
-word_adds o xs j d (word.Answer p) ds (e, said.Refused k) w = inl refl
-word_adds o xs j d (word.Answer p) ds (e, said.NoMemory) w = inl refl
+word_adds o xs j d (word.Answer p) ds (e, Ok said.Done) w = inl refl
+word_adds o xs j d (word.Answer p) ds (e, Ok (said.Asks b q)) w = inl refl
+word_adds o xs j d (word.Answer p) ds (e, Ok (said.Accepted z)) w = inl refl
+word_adds o xs j d (word.Answer p) ds (e, Err k) w = inl refl
 
-net_adds : (o : Setting) (xs : List Shown) (j : ℕ) (d : Seat) (x : Word) (r : Seat × Said) (w : World) → Adds o xs w (after_net o j d x r w)
+net_adds : (o : Setting) (xs : List Shown) (j : ℕ) (d : Seat) (x : Word) (r : Seat × Result Said JudgeFault) (w : World) → Adds o xs w (after_net o j d x r w)
 net_adds o xs j d (word.Ask a) r w = inl refl
 net_adds o xs j d (word.List n) r w = inl refl
 net_adds o xs j d word.Good r w = inl refl

@@ -1,5 +1,5 @@
 -- What really ran.
-use Rattle.std.proofs.Common.{◌≡◌, ℕ, ◌<◌, Bool, true, false, cond, ◌&&◌, eqb, ltb, ◌⊎◌, List, [], ◌∷◌, map, reverse, length, Some, None, Option, sym, refl, ap, ◌∙◌, subst, inl, inr, true≢false, arith}
+use Rattle.std.proofs.Common.{◌≡◌, ℕ, ◌<◌, Bool, true, false, cond, ◌&&◌, eqb, ltb, ◌⊎◌, List, [], ◌∷◌, map, reverse, length, Some, None, Option, Ok, Err, Result, sym, refl, ap, ◌∙◌, subst, inl, inr, true≢false, arith}
 use mathlib.Core.List.Memᴰ
 use mathlib.Core.List.{Memᴰ}
 use Rattle.model.specs.Term.{Derives}
@@ -13,7 +13,9 @@ use Rattle.device.specs.declared.chips.Command.TheVariants as command
 use Rattle.device.specs.declared.digests.Data.{Data}
 use Rattle.device.specs.declared.digests.Digest.{Digest}
 use Rattle.device.specs.declared.registers.Register.{Register}
-use Rattle.device.specs.Rows.{words}
+use Rattle.device.specs.Rows.{row, words}
+use Rattle.verifier.specs.declared.judges.Acceptance.{Acceptance}
+use Rattle.verifier.specs.declared.judges.Fault.{Fault as JudgeFault}
 use Rattle.verifier.specs.declared.judges.Said.{Said}
 use Rattle.verifier.specs.declared.judges.Said.TheVariants as said
 use Rattle.verifier.specs.declared.judges.Word.{Word}
@@ -27,18 +29,18 @@ use Rattle.model.specs.Effect as effect
 use Rattle.model.specs.Promise.{Judged}
 use Rattle.model.proofs.Acceptances.{asked_by_then}
 use Rattle.model.proofs.Judges.{settled}
-use Rattle.verifier.specs.declared.judges.Flags.{Flags}
 use Rattle.verifier.specs.declared.judges.List as list
 use Rattle.verifier.specs.declared.judges.Reply.{Reply}
 use Rattle.verifier.specs.Rows.{flags}
 use Rattle.verifier.specs.Searches.{some, seek, place, has_number, asks}
-use Rattle.verifier.specs.Seats.{Seat, with_questions, listed, signs, new_question, answer_by, answer_at, answer_of, office_of, net_of}
+use Rattle.verifier.specs.Seats.{Seat, refused, with_questions, listed, signs, new_question, answer_by, answer_at, answer_of, office_of, net_of}
 use Rattle.verifier.specs.Worlds.{question_of}
 use Rattle.fleet.proofs.Words.{answer_true}
 use Rattle.fleet.specs.declared.fleets.Act.TheVariants.{Give}
 use Rattle.fleet.specs.declared.fleets.Event.{Event}
 use Rattle.fleet.specs.declared.fleets.Event.TheVariants.{At, Office, Net, Fall, Write, Wipe}
-use Rattle.fleet.specs.declared.fleets.Report.TheVariants.{Done, Nobody, NoMemory}
+use Rattle.fleet.specs.declared.fleets.Fault.TheVariants.{Nobody, NoMemory}
+use Rattle.fleet.specs.declared.fleets.Report.TheVariants.{Done}
 use Rattle.fleet.specs.declared.fleets.Shown.{Shown}
 use Rattle.fleet.specs.Sights.{Sight, same_signature, ran_of, shown_by, acted, judged, machine_at, seat_at, found, played}
 use Rattle.fleet.specs.Worlds.{Setting, term_by, nonce_by, term_of, drawn, FleetStands, WordAllowed, Goes}
@@ -51,12 +53,9 @@ use Rattle.fleet.proofs.Plays.{in_range, plays, claimed, new_stands}
 
 -- ---- only a signature is remembered
 
-judged_shown : (j : ℕ) (s : Sight) (x : Word) (r : Seat × Said) → (judged j s x r).0.shown ≡ s.shown
-judged_shown j s x (d, said.Done) = refl
-judged_shown j s x (d, said.Asks a q) = refl
-judged_shown j s x (d, said.Accepted n r f) = refl
-judged_shown j s x (d, said.Refused k) = refl
-judged_shown j s x (d, said.NoMemory) = refl
+judged_shown : (j : ℕ) (s : Sight) (x : Word) (r : Seat × Result Said JudgeFault) → (judged j s x r).0.shown ≡ s.shown
+judged_shown j s x (d, Ok y) = refl
+judged_shown j s x (d, Err k) = refl
 
 -- nothing is remembered, or machine i signed d
 abbrev Shows : Bool → Sight → Event → Sight → Type 0
@@ -70,8 +69,8 @@ shows m s (At i a) ds = by (act_blind (λ t. t.shown) (λ _ _ _. refl) (λ _ _. 
     by (inr (d, is, inside, found, signed)) = inr (i, d, ap (At i) is, inside, found, ap (λ t. t.shown) signed)
 shows m s (Office j x q) ds = inl (view_cond (λ t. t.shown) s.shown (ltb j (length s.seats)) _ _ (view_cond (λ t. t.shown) s.shown m _ _ (judged_shown j s x (office_of true (seat_at s j) x ds q)) refl) refl)
 shows m s (Net j x) ds = inl (view_cond (λ t. t.shown) s.shown (ltb j (length s.seats)) _ _ (judged_shown j s x (net_of (seat_at s j) x)) refl)
-shows m s (Fall j) ds = inl (view_cond (λ t. t.shown) s.shown (ltb j (length s.seats)) (_, Done) (s, Nobody) refl refl)
-shows m s (Write n f g) ds = inl (view_cond (λ t. t.shown) s.shown m (_, Done) (s, NoMemory) refl refl)
+shows m s (Fall j) ds = inl (view_cond (λ t. t.shown) s.shown (ltb j (length s.seats)) (_, Ok Done) (s, Err Nobody) refl refl)
+shows m s (Write n f g) ds = inl (view_cond (λ t. t.shown) s.shown m (_, Ok Done) (s, Err NoMemory) refl refl)
 shows m s Wipe ds = inl refl
 
 -- ---- what is remembered of a signature was so at a moment
@@ -102,7 +101,7 @@ shown_now o s i d {w = w} l f below h =
 signing_shows : (m : Bool) (s : Sight) (e : Event) (ds : List Digest) (i : ℕ) (d : Data) → e ≡ At i (Give (command.Sign d)) → ltb i (length s.machines) ≡ true → m ≡ true → (played m s e ds).0.shown ≡ shown_by (machine_at s i) d ∷ s.shown
 signing_shows m s e ds i d is inside found = subst (λ z. (played m s z ds).0.shown ≡ shown_by (machine_at s i) d ∷ s.shown) (sym is) (go (ltb i (length s.machines)) m inside found)
   where
-    go : (b m : Bool) → b ≡ true → m ≡ true → (cond b (acted m i s (machine_at s i) (Give (command.Sign d))) (s, Nobody)).0.shown ≡ shown_by (machine_at s i) d ∷ s.shown
+    go : (b m : Bool) → b ≡ true → m ≡ true → (cond b (acted m i s (machine_at s i) (Give (command.Sign d))) (s, Err Nobody)).0.shown ≡ shown_by (machine_at s i) d ∷ s.shown
     go true true _ _ = refl
     go true false _ e = absurd (true≢false (sym e))
     go false m e _ = absurd (true≢false (sym e))
@@ -163,22 +162,22 @@ seek_none {A} p (y ∷ ys) x e there passes = by (p y) refl (sym (seek_cons p y 
 abbrev Answers : Seat → Reply → Register → Type 0
 Answers d p row = ((k : ℕ) × (place (asks p.chip p.«data») 0 d.questions ≡ Some k)) × (signs p row ≡ true)
 
-accepted_answers : (d : Seat) (p : Reply) (n : ℕ) (row : Register) (g : Flags) → (answer_of d p).1 ≡ said.Accepted n row g → Answers d p row
-accepted_answers d p n row g = by_chip (some (eqb p.chip) d.chips)
+accepted_answers : (d : Seat) (p : Reply) (z : Acceptance) → (answer_of d p).1 ≡ Ok (said.Accepted z) → Answers d p z.row
+accepted_answers d p z = by_chip (some (eqb p.chip) d.chips)
   where
-    by_sign : (l : list.List) (k : ℕ) (b : Bool) → signs p l.row ≡ b → (cond {A = Seat × Said} b (with_questions (remove d.questions k) d, said.Accepted l.number l.row (flags (listed d.good) l.row)) (d, said.Refused refusal.BadSignature)).1 ≡ said.Accepted n row g → signs p row ≡ true
-    by_sign l k true is e = let same : l.row ≡ row = cc in subst (λ r. signs p r ≡ true) same is
+    by_sign : (l : list.List) (k : ℕ) (b : Bool) → signs p l.row ≡ b → (cond {A = Seat × Result Said JudgeFault} b (with_questions (remove d.questions k) d, Ok (said.Accepted (record { list = l.number; row = l.row; flags = flags (listed d.good) l.row }))) (refused d refusal.BadSignature)).1 ≡ Ok (said.Accepted z) → signs p z.row ≡ true
+    by_sign l k true is e = let same : record { list = l.number; row = l.row; flags = flags (listed d.good) l.row } ≡ z = cc in subst (λ y. signs p y.row ≡ true) same is
     by_sign l k false is e = absurd (grind arith)
 
-    by_list : (k : ℕ) (o : Option list.List) → (answer_by d p k o).1 ≡ said.Accepted n row g → signs p row ≡ true
+    by_list : (k : ℕ) (o : Option list.List) → (answer_by d p k o).1 ≡ Ok (said.Accepted z) → signs p z.row ≡ true
     by_list k None e = absurd (grind arith)
     by_list k (Some l) e = by_sign l k (signs p l.row) refl e
 
-    by_place : (o : Option ℕ) → place (asks p.chip p.«data») 0 d.questions ≡ o → (answer_at d p o).1 ≡ said.Accepted n row g → Answers d p row
+    by_place : (o : Option ℕ) → place (asks p.chip p.«data») 0 d.questions ≡ o → (answer_at d p o).1 ≡ Ok (said.Accepted z) → Answers d p z.row
     by_place None is e = absurd (grind arith)
     by_place (Some k) is e = ((k, is), by_list k (seek (has_number p.list) d.lists) e)
 
-    by_chip : (b : Bool) → (cond {A = Seat × Said} b (answer_at d p (place (asks p.chip p.«data») 0 d.questions)) (d, said.Refused refusal.UnknownChip)).1 ≡ said.Accepted n row g → Answers d p row
+    by_chip : (b : Bool) → (cond {A = Seat × Result Said JudgeFault} b (answer_at d p (place (asks p.chip p.«data») 0 d.questions)) (refused d refusal.UnknownChip)).1 ≡ Ok (said.Accepted z) → Answers d p z.row
     by_chip true e = by_place (place (asks p.chip p.«data») 0 d.questions) refl e
     by_chip false e = absurd (grind arith)
 
@@ -200,18 +199,17 @@ named_so o d n = by (o.names d.bytes)
     by (Some m) e = ap Some (grind arith)
     by None e = absurd (grind arith)
 
-answer_really : (o : Setting) (s : Sight) (j : ℕ) (w : World) → j < length s.seats → FleetStands o s w → (p : Reply) (r : Seat × Said) → r ≡ answer_of (seat_at s j) p → WordAllowed o (word.Answer p) r.1 w → {k : ℕ} (l : Run o.programs k made w) → Remembers o s l → OfAccepted (judged j s (word.Answer p) r).1 (λ row ran. IfRan ran (λ x. Really o j p row x l))
-answer_really o s j w below f p (e, said.Done) is h l old = tt
-answer_really o s j w below f p (e, said.Asks b c) is h l old = tt
-answer_really o s j w below f p (e, said.Refused k) is h l old = tt
-answer_really o s j w below f p (e, said.NoMemory) is h l old = tt
-answer_really o s j w below f p (e, said.Accepted n row g) is h l old = by (seek (same_signature p.signature) s.shown) refl
+answer_really : (o : Setting) (s : Sight) (j : ℕ) (w : World) → j < length s.seats → FleetStands o s w → (p : Reply) (r : Seat × Result Said JudgeFault) → r ≡ answer_of (seat_at s j) p → WordAllowed o (word.Answer p) r.1 w → {k : ℕ} (l : Run o.programs k made w) → Remembers o s l → OfAccepted (judged j s (word.Answer p) r).1 (λ row ran. IfRan ran (λ x. Really o j p row x l))
+answer_really o s j w below f p (e, Ok said.Done) is h l old = tt
+answer_really o s j w below f p (e, Ok (said.Asks b c)) is h l old = tt
+answer_really o s j w below f p (e, Err k) is h l old = tt
+answer_really o s j w below f p (e, Ok (said.Accepted z)) is h l old = by (seek (same_signature p.signature) s.shown) refl
   where
-    judged_so : Judged o.programs l (effect.acceptance (question_of (drawn o) j (new_question p.chip p.«data»)) (words row))
-    judged_so = answer_true o s j w below f p (e, said.Accepted n row g) is h l
+    judged_so : Judged o.programs l (effect.acceptance (question_of (drawn o) j (new_question p.chip p.«data»)) (words z.row))
+    judged_so = answer_true o s j w below f p (e, Ok (said.Accepted z)) is h l
 
-    answers : Answers (seat_at s j) p row
-    answers = accepted_answers (seat_at s j) p n row g (sym (ap (λ q. q.1) is))
+    answers : Answers (seat_at s j) p z.row
+    answers = accepted_answers (seat_at s j) p z (sym (ap (λ q. q.1) is))
 
     -- the question's bytes were drawn
     named : IsDrawn o p.«data»
@@ -220,13 +218,13 @@ answer_really o s j w below f p (e, said.Accepted n row g) is h l old = by (seek
     nonce_is : term_of o p.«data» ≡ effect.honest (drawn o p.«data».bytes)
     nonce_is = ap term_by named.1 ∙ ap effect.honest (sym (ap nonce_by named.1))
 
-    mine : (p.signature.chip ≡ p.chip) × (p.signature.«data» ≡ p.«data») × (words p.signature.register ≡ words row)
+    mine : (p.signature.chip ≡ p.chip) × (p.signature.«data» ≡ p.«data») × (words p.signature.register ≡ words z.row)
     mine =
         let (a, b, c) = three _ _ _ answers.1 in
-        ((Decides-eqb _ _).0 a, (same_data_decides _ _).0 b, ap (λ ds. map (λ d. d.bytes) (reverse ds)) ((same_digests_decides _ _).0 c))
+        ((Decides-eqb _ _).0 a, (same_data_decides _ _).0 b, ap (λ ds. map (λ d. d.bytes) (reverse ds)) ((same_digests_decides (row p.signature.register) (row z.row)).0 c))
 
     noted : Noted o s.shown p.chip (effect.statement (effect.honest (drawn o p.«data».bytes)) (words p.signature.register))
-    noted = (derives_safe (λ _. Unit {0}) (Noted o s.shown) (λ _. tt) old.known (h n row g refl)).0
+    noted = (derives_safe (λ _. Unit {0}) (Noted o s.shown) (λ _. tt) old.known (h z refl)).0
 
     -- so the signature is found among the notes
     passing : (x : Shown) → x.signature.chip ≡ p.chip → effect.statement (effect.honest (drawn o p.«data».bytes)) (words p.signature.register) ≡ effect.statement (term_of o x.signature.«data») (words x.signature.register) → same_signature p.signature x ≡ true
@@ -234,16 +232,16 @@ answer_really o s j w below f p (e, said.Accepted n row g) is h l old = by (seek
         let nonce : effect.honest (drawn o p.«data».bytes) ≡ term_of o x.signature.«data» = cc in
         let rows : words p.signature.register ≡ words x.signature.register = cc in
         let bytes : p.«data».bytes ≡ x.signature.«data».bytes = o.apart _ _ _ (named_so o p.«data» _ nonce_is) (named_so o x.signature.«data» _ (sym nonce)) in
-        all_three _ _ _ ((Decides-eqb _ _).1 (mine.0 ∙ sym chip_is)) ((same_data_decides _ _).1 (mine.1 ∙ (λ i. record { bytes = bytes i }))) ((same_digests_decides _ _).1 (same_words p.signature.register x.signature.register rows))
+        all_three _ _ _ ((Decides-eqb _ _).1 (mine.0 ∙ sym chip_is)) ((same_data_decides _ _).1 (mine.1 ∙ (λ i. record { bytes = bytes i }))) ((same_digests_decides (row p.signature.register) (row x.signature.register)).1 (same_words p.signature.register x.signature.register rows))
 
-    by : (x : Option Shown) → seek (same_signature p.signature) s.shown ≡ x → IfRan (ran_of x) (λ ran. Really o j p row ran l)
+    by : (x : Option Shown) → seek (same_signature p.signature) s.shown ≡ x → IfRan (ran_of x) (λ ran. Really o j p z.row ran l)
     by None found = let (x, there, chip_is, same) = noted in seek_none (same_signature p.signature) s.shown x found there (passing x chip_is same)
     by (Some x) found =
         let (there, passes) = seek_member (same_signature p.signature) s.shown x found in
         let (a, b, c) = three _ _ _ passes in
         let chip_is : x.signature.chip ≡ p.chip = sym ((Decides-eqb _ _).0 a) ∙ mine.0 in
         let data_is : x.signature.«data» ≡ p.«data» = sym ((same_data_decides _ _).0 b) ∙ mine.1 in
-        let row_is : words x.signature.register ≡ words row = ap (λ ds. map (λ d. d.bytes) (reverse ds)) (sym ((same_digests_decides _ _).0 c)) ∙ mine.2 in
+        let row_is : words x.signature.register ≡ words z.row = ap (λ ds. map (λ d. d.bytes) (reverse ds)) (sym ((same_digests_decides (row p.signature.register) (row x.signature.register)).0 c)) ∙ mine.2 in
         let was = old.was x there in
         record {
           moment = was.moment;

@@ -1,5 +1,5 @@
 -- What really ran: along a run of the world that goes with the events, each acceptance is reported with what had been loaded when the chip signed, and that is true of a moment of that run.
-use Rattle.std.specs.Prelude.{◌≡◌, ℕ, suc, List, [], ◌∷◌, Some, None, Option}
+use Rattle.std.specs.Prelude.{◌≡◌, ℕ, suc, List, [], ◌∷◌, Some, None, Option, Result}
 use mathlib.Core.List.{Memᴰ}
 use Rattle.model.specs.World.{Programs, World}
 use Rattle.model.specs.Effect.{made}
@@ -11,6 +11,7 @@ use Rattle.verifier.specs.declared.judges.Reply.{Reply}
 use Rattle.verifier.specs.Seats.{new_question}
 use Rattle.verifier.specs.Worlds.{question_of}
 use Rattle.fleet.specs.declared.fleets.Event.{Event}
+use Rattle.fleet.specs.declared.fleets.Fault.{Fault}
 use Rattle.fleet.specs.declared.fleets.Report.{Report}
 use Rattle.fleet.specs.Makes.{Begins}
 use Rattle.fleet.specs.Sights.{Sight, found}
@@ -34,7 +35,7 @@ abbrev pub IfRan : Option Register → (Register → Type 0) → Type 0
 IfRan None P = ⊥
 IfRan (Some r) P = P r
 
-abbrev pub RanClaim : (o : Setting) → Event → Report → {k : ℕ} {w : World} → Run o.programs k made w → Type 0
+abbrev pub RanClaim : (o : Setting) → Event → Result Report Fault → {k : ℕ} {w : World} → Run o.programs k made w → Type 0
 RanClaim o e r l = OfEvent e r (λ j p row ran. IfRan ran (λ x. Really o j p row x l))
 
 -- l leads to the world before the first of these events; each goes on from there

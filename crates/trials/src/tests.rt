@@ -1,4 +1,4 @@
-//! What the tests share: short digests and data, rows of them, and what was told as a number.
+//! What the tests share: short digests and data, rows of them, and refusals by their numbers.
 
 mod chips;
 mod judges;
@@ -11,9 +11,6 @@ use device::registers::Register;
 /// The first program is that of digest 9.
 pub const FIRST: u8 = 9;
 
-/// Stands for "not refused": no refusal has this number.
-pub const FINE: u8 = 100;
-
 pub fn digest(n: u8) -> Digest {
     Digest { bytes: [n; 32] }
 }
@@ -25,17 +22,18 @@ pub fn data(n: u8) -> Data {
 /// The row of these digests.
 pub fn row(ns: &[u8]) -> Register {
     let mut row = Register::empty();
-    for i in 0..ns.len() {
-        if let Some(more) = row.with(digest(ns[i])) {
+    for n in ns {
+        if let Some(more) = row.with(digest(*n)) {
             row = more;
         }
     }
     row
 }
 
-pub fn told(why: Option<Refusal>) -> u8 {
-    match why {
-        Some(refusal) => refusal.number(),
-        None => FINE,
+/// What came of it, a refusal by its number.
+pub fn told<T: Drop>(outcome: Result<T, Refusal>) -> Result<(), u8> {
+    match outcome {
+        Ok(_) => Ok(()),
+        Err(why) => Err(u8::from(why)),
     }
 }

@@ -5,7 +5,6 @@ ghost use Rattle.std.specs.Option.{option_map};
 ghost use Rattle.script.specs.Forms.{parts_of, open_of, suffix_of, ends_with, body_of, suits_of};
 
 use crate::lines::Part;
-use crate::texts::same;
 use crate::verbs::{Key, Verb};
 
 /// Of machines and judges there are no more than a small computer has room for.
@@ -51,16 +50,16 @@ impl Verb {
     pub fn is_open(self) -> bool
         ensures { result ≡ open_of self }
     {
-        match self {
+        matches!(
+            self,
             Verb::Fleet
-            | Verb::List
-            | Verb::ListFurther
-            | Verb::Keep
-            | Verb::Close
-            | Verb::Good
-            | Verb::Rows => true,
-            _ => false,
-        }
+                | Verb::List
+                | Verb::ListFurther
+                | Verb::Keep
+                | Verb::Close
+                | Verb::Good
+                | Verb::Rows
+        )
     }
 
     /// The word before the name with which the line ends.
@@ -86,17 +85,14 @@ impl Verb {
     }
 
     /// Whether the words after the verb can be its line.
-    pub fn suits<'a>(self, words: &'a [&'a str]) -> bool
+    pub fn suits(self, words: &[&str]) -> bool
         ensures { result ≡ suits_of self words.now }
     {
-        let Some(body) = self.body(words) else {
-            return false;
-        };
         let n = self.parts().len();
-        if self.is_open() {
-            n <= body.len()
-        } else {
-            n == body.len()
+        match self.body(words) {
+            Some(body) if self.is_open() => n <= body.len(),
+            Some(body) => n == body.len(),
+            None => false,
         }
     }
 }
@@ -105,14 +101,8 @@ impl Verb {
 fn before_suffix<'a>(words: &'a [&'a str], key: Key) -> Option<&'a [&'a str]>
     ensures { option_map (λ x. x.now) result ≡ ends_with key words.now }
 {
-    let n = words.len();
-    if n < 2 {
-        return None;
-    }
-    let word = words[n - 2];
-    if same(word, key.text()) {
-        Some(&words[0..n - 2])
-    } else {
-        None
+    match words {
+        [body @ .., word, _] if *word == key.text() => Some(body),
+        _ => None,
     }
 }

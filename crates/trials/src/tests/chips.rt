@@ -1,82 +1,76 @@
 //! Tests of the chip.
 
-use crate::tests::{FINE, data, digest, row};
+use crate::tests::{data, digest, row, told};
 use device::chips::{Answer, Chip, Command, Content, Seal, Target, Thing};
 use std::test::Fail;
 
-/// The refusal's number.
-fn why(answer: Answer) -> u8 {
-    match answer {
-        Answer::Refused(refusal) => refusal.number(),
-        _ => FINE,
-    }
-}
-
 /// The counter that the chip tells.
 fn counter(chip: Chip) -> Option<u64> {
-    let (_, answer) = chip.answer(Command::Read);
-    match answer {
-        Answer::Now(counter, _) => Some(counter),
+    match chip.answer(Command::Read) {
+        Ok((_, Answer::Now(counter, _))) => Some(counter),
         _ => None,
     }
 }
 
+/// The chip after a command, and its answer, where it does not refuse.
+pub fn give(chip: Chip, command: Command) -> Result<(Chip, Answer), Fail> {
+    match chip.answer(command) {
+        Ok(given) => Ok(given),
+        Err(_) => Err(Fail::new("refused")),
+    }
+}
+
 /// A chip of this number with digest 1 put in.
-fn chip_with_one(id: u32) -> Chip {
-    let (chip, _) = Chip::new(id).answer(Command::Put(digest(1)));
-    chip
+fn chip_with_one(id: u32) -> Result<Chip, Fail> {
+    let (chip, _) = give(Chip::new(id), Command::Put(digest(1)))?;
+    Ok(chip)
 }
 
 /// What the chip closes: data 5 for this target.
 fn closes(chip: Chip, target: Target) -> Result<Thing, Fail> {
-    let (_, answer) = chip.answer(Command::Close(target, data(5)));
-    match answer {
-        Answer::Closed(thing) => Ok(thing),
+    match give(chip, Command::Close(target, data(5)))? {
+        (_, Answer::Closed(thing)) => Ok(thing),
         _ => Err(Fail::new("not closed")),
     }
 }
 
-/// The number of the refusal to open this.
-fn opens(chip: Chip, thing: Thing) -> u8 {
-    let (_, answer) = chip.answer(Command::Open(thing));
-    why(answer)
+fn opens(chip: Chip, thing: Thing) -> Result<(), u8> {
+    told(chip.answer(Command::Open(thing)))
 }
 
-fn counted(chip: Chip) -> Chip {
-    let (chip, _) = chip.answer(Command::Count);
-    chip
+fn counted(chip: Chip) -> Result<Chip, Fail> {
+    let (chip, _) = give(chip, Command::Count)?;
+    Ok(chip)
 }
 
 #[test]
-fn seventeenth_put_is_refused_and_changes_nothing(rt: HostRuntime) {
+fn seventeenth_put_is_refused_and_changes_nothing(rt: HostRuntime) -> Result<(), Fail> {
     let mut chip = Chip::new(7);
     for n in 0..16u8 {
-        let (next, answer) = chip.answer(Command::Put(digest(n)));
+        let (next, answer) = give(chip, Command::Put(digest(n)))?;
         assert!(rt; matches!(answer, Answer::Done), "there is room");
         chip = next;
     }
-    let (after, answer) = chip.answer(Command::Put(digest(16)));
-    assert_eq!(rt; why(answer), 0);
-    assert_eq!(rt; after.register().len(), 16);
-    assert!(rt; after.register().same(chip.register()), "the same row");
-    assert_eq!(rt; counter(after), Some(0));
+    assert_eq!(rt; told(chip.answer(Command::Put(digest(16)))), Err(0));
+    assert_eq!(rt; chip.register().len(), 16);
+    assert_eq!(rt; counter(chip), Some(0));
+    Ok(())
 }
 
 #[test]
 fn closed_data_is_opened_under_the_same_row_and_counter(rt: HostRuntime) -> Result<(), Fail> {
-    let chip = counted(chip_with_one(7));
+    let chip = counted(chip_with_one(7)?)?;
     let thing = closes(chip, Target::Row(row(&[1])))?;
-    let (_, answer) = chip.answer(Command::Open(thing));
-    let Answer::Opened(inside) = answer else {
+    let (_, Answer::Opened(inside)) = give(chip, Command::Open(thing))? else {
         return Err(Fail::new("not opened"));
     };
-    assert!(rt; inside.same(data(5)));
+    assert!(rt; inside == data(5));
     Ok(())
 }
 
 #[test]
 fn altered_data_under_a_seal_is_refused_by_2(rt: HostRuntime) -> Result<(), Fail> {
-    let chip = chip_with_one(7);
+    let chip = chip_with_one(7)?;
     let thing = closes(chip, Target::Row(row(&[1])))?;
     let altered = Thing {
         content: Content {
@@ -85,22 +79,20 @@ fn altered_data_under_a_seal_is_refused_by_2(rt: HostRuntime) -> Result<(), Fail
         },
         ..thing
     };
-    assert_eq!(rt; opens(chip, altered), 2);
-    assert_eq!(rt;
-        opens(counted(chip.switched_on()), altered),
-        2,
-        "before 3 and 4"
-    );
-    assert_eq!(rt; opens(chip, thing), FINE, "unaltered");
+    assert_eq!(rt; opens(chip, altered), Err(2));
+    let older = counted(chip.switched_on())?;
+    assert_eq!(rt; opens(older, altered), Err(2), "before 3 and 4");
+    assert_eq!(rt; opens(chip, thing), Ok(()), "unaltered");
     Ok(())
 }
 
 #[test]
 fn seal_of_another_chip_is_refused_by_2(rt: HostRuntime) -> Result<(), Fail> {
-    let chip = chip_with_one(7);
-    let thing = closes(chip_with_one(8), Target::Row(row(&[1])))?;
-    assert_eq!(rt; opens(chip, thing), 2);
-    assert_eq!(rt; opens(chip_with_one(8), thing), FINE, "by its own chip");
+    let chip = chip_with_one(7)?;
+    let other = chip_with_one(8)?;
+    let thing = closes(other, Target::Row(row(&[1])))?;
+    assert_eq!(rt; opens(chip, thing), Err(2));
+    assert_eq!(rt; opens(other, thing), Ok(()), "by its own chip");
     let claimed = Thing {
         seal: Seal {
             chip: 7,
@@ -108,62 +100,60 @@ fn seal_of_another_chip_is_refused_by_2(rt: HostRuntime) -> Result<(), Fail> {
         },
         ..thing
     };
-    assert_eq!(rt; opens(chip_with_one(8), claimed), 2, "the seal says 7");
+    assert_eq!(rt; opens(other, claimed), Err(2), "the seal says 7");
     Ok(())
 }
 
 #[test]
 fn thing_for_another_row_is_refused_by_3(rt: HostRuntime) -> Result<(), Fail> {
-    let chip = chip_with_one(7);
+    let chip = chip_with_one(7)?;
     let other = closes(chip, Target::Row(row(&[2])))?;
-    assert_eq!(rt; opens(chip, other), 3, "another digest");
+    assert_eq!(rt; opens(chip, other), Err(3), "another digest");
     let longer = closes(chip, Target::Row(row(&[1, 1])))?;
-    assert_eq!(rt; opens(chip, longer), 3, "a longer row");
+    assert_eq!(rt; opens(chip, longer), Err(3), "a longer row");
     let shorter = closes(chip, Target::Row(row(&[])))?;
-    assert_eq!(rt; opens(chip, shorter), 3, "the empty row");
+    assert_eq!(rt; opens(chip, shorter), Err(3), "the empty row");
     let nowhere = closes(chip, Target::Nowhere)?;
-    assert_eq!(rt; opens(chip, nowhere), 3, "nowhere");
+    assert_eq!(rt; opens(chip, nowhere), Err(3), "nowhere");
     Ok(())
 }
 
 #[test]
 fn thing_under_another_counter_is_refused_by_4(rt: HostRuntime) -> Result<(), Fail> {
-    let chip = chip_with_one(7);
+    let chip = chip_with_one(7)?;
     let thing = closes(chip, Target::Row(row(&[1])))?;
-    assert_eq!(rt; opens(counted(chip), thing), 4, "an older counter");
-    let newer = closes(counted(chip), Target::Row(row(&[1])))?;
-    assert_eq!(rt; opens(chip, newer), 4, "a newer counter");
-    assert_eq!(rt;
-        opens(counted(chip.switched_on()), thing),
-        3,
-        "another row too"
-    );
+    assert_eq!(rt; opens(counted(chip)?, thing), Err(4), "an older counter");
+    let newer = closes(counted(chip)?, Target::Row(row(&[1])))?;
+    assert_eq!(rt; opens(chip, newer), Err(4), "a newer counter");
+    let switched = counted(chip.switched_on())?;
+    assert_eq!(rt; opens(switched, thing), Err(3), "another row too");
     Ok(())
 }
 
 #[test]
-fn program_that_claims_to_be_the_switch_is_refused_by_1(rt: HostRuntime) {
-    let chip = counted(chip_with_one(7));
-    let (after, answer) = chip.answer(Command::SwitchedOn);
-    assert_eq!(rt; why(answer), 1);
-    assert!(rt; after.register().same(row(&[1])), "the row stays");
-    assert_eq!(rt; counter(after), Some(1));
+fn program_that_claims_to_be_the_switch_is_refused_by_1(rt: HostRuntime) -> Result<(), Fail> {
+    let chip = counted(chip_with_one(7)?)?;
+    assert_eq!(rt; told(chip.answer(Command::SwitchedOn)), Err(1));
+    assert!(rt; chip.register() == row(&[1]), "the row stays");
+    assert_eq!(rt; counter(chip), Some(1));
+    Ok(())
 }
 
 #[test]
-fn switch_empties_the_register_and_keeps_the_counter(rt: HostRuntime) {
-    let chip = counted(counted(chip_with_one(7)));
+fn switch_empties_the_register_and_keeps_the_counter(rt: HostRuntime) -> Result<(), Fail> {
+    let chip = counted(counted(chip_with_one(7)?)?)?;
     assert_eq!(rt; chip.register().len(), 1, "before");
     let after = chip.switched_on();
     assert_eq!(rt; after.register().len(), 0);
     assert_eq!(rt; counter(after), Some(2));
     assert_eq!(rt; after.id(), 7);
+    Ok(())
 }
 
 #[test]
 fn things_closed_are_numbered_0_and_1(rt: HostRuntime) -> Result<(), Fail> {
-    let (chip, answer) = chip_with_one(7).answer(Command::Close(Target::Nowhere, data(5)));
-    let Answer::Closed(thing) = answer else {
+    let command = Command::Close(Target::Nowhere, data(5));
+    let (chip, Answer::Closed(thing)) = give(chip_with_one(7)?, command)? else {
         return Err(Fail::new("not closed"));
     };
     assert_eq!(rt; thing.content.number, 0);

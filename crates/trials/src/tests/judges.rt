@@ -3,94 +3,101 @@
 mod answers;
 mod limits;
 
-use crate::tests::{FINE, FIRST, data, digest, row};
+use crate::tests::{FIRST, data, digest, row};
 use device::chips::Signature;
 use device::digests::Digest;
 use std::alloc::Global;
 use std::process::Abort;
-use verifier::judges::{Judge, Reply, Said, Word};
+use verifier::judges::{Fault, Judge, Reply, Said, Word};
 
-pub const ASKS: u8 = 101;
-
-pub const ACCEPTED: u8 = 102;
-
-pub const NO_MEMORY: u8 = 103;
-
-/// What was said, as a number: that of the refusal, or one of those above.
-pub fn number(said: Said) -> u8 {
-    match said {
-        Said::Done => FINE,
-        Said::Asks(_, _) => ASKS,
-        Said::Accepted(_, _, _) => ACCEPTED,
-        Said::Refused(refusal) => refusal.number(),
-        Said::NoMemory => NO_MEMORY,
+/// The number by which a word was refused.
+fn number(outcome: Result<Said, Fault>) -> Option<u8> {
+    match outcome {
+        Err(Fault::Refused(why)) => Some(u8::from(why)),
+        _ => None,
     }
 }
 
-/// A word from the office with these digests, and what the judge should say to it.
-pub fn give(
-    rt: &impl Abort,
-    judge: &mut Judge,
+/// A judge, and what a test needs to give it words.
+#[derive(Drop)]
+pub struct Bench<'a, R> {
+    rt: &'a R,
     heap: Global,
-    word: Word,
-    digests: &[Digest],
-    said: u8,
-    note: &str,
-) {
-    assert_eq!(rt;
-        number(judge.office(heap, word, digests, None)),
-        said,
-        "{}",
-        note
-    );
+    judge: Judge,
 }
 
-/// The same with no digests.
-pub fn tell(rt: &impl Abort, judge: &mut Judge, heap: Global, word: Word, said: u8, note: &str) {
-    give(rt, judge, heap, word, &[], said, note);
-}
+impl<'a, R: Abort> Bench<'a, R> {
+    /// A judge that knows nothing but the first program.
+    pub fn new(rt: &'a R, heap: Global) -> Bench<'a, R> {
+        Bench {
+            rt,
+            heap,
+            judge: Judge::new(heap, digest(FIRST)),
+        }
+    }
 
-/// The office has the chip asked with this data.
-pub fn ask(
-    rt: &impl Abort,
-    judge: &mut Judge,
-    heap: Global,
-    chip: u32,
-    n: u8,
-    said: u8,
-    note: &str,
-) {
-    let draw = Some(data(n));
-    assert_eq!(rt;
-        number(judge.office(heap, Word::Ask(chip), &[], draw)),
-        said,
-        "{}",
-        note
-    );
-}
+    /// A judge that knows chips 1 and 2, list 5 of the first program and program 1, and list 6 of the first program; chip
+    /// 1 was asked with data 40.
+    pub fn ready(rt: &'a R, heap: Global) -> Bench<'a, R> {
+        let mut bench = Bench::new(rt, heap);
+        bench.takes(Word::Chip(1), &[], "chip 1");
+        bench.takes(Word::Chip(2), &[], "chip 2");
+        bench.takes(Word::List(5), &[digest(FIRST), digest(1)], "list 5");
+        bench.takes(Word::List(6), &[digest(FIRST)], "list 6");
+        bench.asks(1, 40, "asked");
+        bench
+    }
 
-/// A word from the net.
-pub fn net(rt: &impl Abort, judge: &mut Judge, word: Word, said: u8, note: &str) {
-    assert_eq!(rt; number(judge.net(word)), said, "{}", note);
-}
+    /// A word from the office with these digests, which the judge takes.
+    pub fn takes(&mut self, word: Word, digests: &[Digest], note: &str) {
+        let outcome = self.judge.office(self.heap, word, digests, None);
+        assert!(self.rt; matches!(outcome, Ok(Said::Done)), "{}", note);
+    }
 
-/// An answer from the net.
-pub fn answer(rt: &impl Abort, judge: &mut Judge, reply: Reply, said: u8, note: &str) {
-    net(rt, judge, Word::Answer(reply), said, note);
-}
+    /// The same, which it refuses by this number.
+    pub fn refuses(&mut self, word: Word, digests: &[Digest], why: u8, note: &str) {
+        let outcome = self.judge.office(self.heap, word, digests, None);
+        assert_eq!(self.rt; number(outcome), Some(why), "{}", note);
+    }
 
-/// A judge that knows chips 1 and 2, list 5 of the first program and program 1, and list 6 of the first program; chip 1
-/// was asked with data 40.
-pub fn judge(rt: &impl Abort, heap: Global) -> Judge {
-    let mut judge = Judge::new(heap, digest(FIRST));
-    tell(rt, &mut judge, heap, Word::Chip(1), FINE, "chip 1");
-    tell(rt, &mut judge, heap, Word::Chip(2), FINE, "chip 2");
-    let long = [digest(FIRST), digest(1)];
-    give(rt, &mut judge, heap, Word::List(5), &long, FINE, "list 5");
-    let short = [digest(FIRST)];
-    give(rt, &mut judge, heap, Word::List(6), &short, FINE, "list 6");
-    ask(rt, &mut judge, heap, 1, 40, ASKS, "asked");
-    judge
+    /// The office has the chip asked with this data, and the judge asks.
+    pub fn asks(&mut self, chip: u32, n: u8, note: &str) {
+        let outcome = self
+            .judge
+            .office(self.heap, Word::Ask(chip), &[], Some(data(n)));
+        assert!(self.rt; matches!(outcome, Ok(Said::Asks(_, _))), "{}", note);
+    }
+
+    /// The same, and the judge does not ask.
+    pub fn does_not_ask(&mut self, chip: u32, n: u8, why: u8, note: &str) {
+        let outcome = self
+            .judge
+            .office(self.heap, Word::Ask(chip), &[], Some(data(n)));
+        assert_eq!(self.rt; number(outcome), Some(why), "{}", note);
+    }
+
+    /// A word from the net, which the judge refuses.
+    pub fn refuses_from_net(&mut self, word: Word, why: u8, note: &str) {
+        assert_eq!(self.rt; number(self.judge.net(word)), Some(why), "{}", note);
+    }
+
+    /// An answer from the net, which the judge accepts.
+    pub fn accepts(&mut self, reply: Reply, note: &str) {
+        let outcome = self.judge.net(Word::Answer(reply));
+        assert!(self.rt; matches!(outcome, Ok(Said::Accepted(_))), "{}", note);
+    }
+
+    pub fn net(&mut self, word: Word) -> Result<Said, Fault> {
+        self.judge.net(word)
+    }
+
+    pub fn knows(&self, digest: Digest) -> bool {
+        self.judge.known(digest)
+    }
+
+    pub fn fall(&mut self) {
+        self.judge.fall();
+    }
 }
 
 /// What chip 1 signs with the row of list 5 when it is asked with this data.

@@ -1,13 +1,15 @@
-use Rattle.std.proofs.Common.{Some, None}
-use Rattle.script.proofs.Fills.{digits_next, digits_all}
-use Rattle.script.proofs.Shapes.{number_is}
+use Rattle.std.proofs.Common.{rules}
+use borrow.Author.Tests.{tests}
+use Rattle.std.proofs.lemmas.Iterator.Adapters.{YieldsList-from_bytes}
+use Rattle.script.specs.Numbers.{next_of}
+use Rattle.script.proofs.Tries.{try_fold_is}
+use Rattle.script.proofs.Fills.{number_is, number_within}
 use Rattle.script.proofs.numbers.number.Goals as goal
 
-pub returns-in-None : goal.returns-in-None
-returns-in-None c = record { exact = number_is c.args.limit _ _ _ c.as_bytes-digits.ensures.value c.if-is_empty.ensures (digits_next c.args.limit c.loop-i.n _ c.loop-i.i 0 None _ c.loop-i-test.true c.in-None.ensures.exact c.loop-i.invariant.0); within = tt }
-
-pub loop-i-preserved : goal.loop-i-preserved
-loop-i-preserved c = (digits_next c.args.limit c.loop-i.n _ c.loop-i.i 0 (Some c.in-Some.more) _ c.loop-i-test.true c.in-Some.ensures.exact c.loop-i.invariant.0, c.in-Some.ensures.within)
-
 pub returns : goal.returns
-returns c = record { exact = number_is c.args.limit _ _ _ c.as_bytes-digits.ensures.value c.if-is_empty.ensures (digits_all c.args.limit c.loop-i.n _ c.loop-i.i _ c.loop-i-test.false c.loop-i.invariant.0); within = c.loop-i.invariant.1 }
+returns c =
+    let folded = try_fold_is _ _ _ (next_of c.args.limit) _ (λ n b r f k. search (rules, tests)) c.args.word.now _ _ 0 c.try_fold.result (YieldsList-from_bytes c.args.word.now c.bytes.ensures.rest) c.try_fold.ensures.ran in
+    record {
+      exact = number_is c.args.limit c.args.word.now c.try_fold.result c.ok_or.result c.if-is_empty.ensures folded c.ok_or.ensures.value;
+      within = number_within c.args.limit c.args.word.now c.try_fold.result c.ok_or.result folded c.ok_or.ensures.value;
+    }

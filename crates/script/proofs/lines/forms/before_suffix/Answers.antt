@@ -1,10 +1,14 @@
-use Rattle.std.proofs.Common.{true, false, take, Some, ap, ◌∙◌}
-use native.Mathlib.Nat.{sub-zero}
-use Rattle.script.proofs.Shapes.{suffix_is}
+use Rattle.std.proofs.Common.{true, false, arith}
+use borrow.Author.Tests.{ltb-true}
+use Rattle.script.proofs.Shapes.{suffix_is, suffix_short}
 use Rattle.script.proofs.lines.forms.before_suffix.Goals as goal
+use Rattle.script.proofs.lines.forms.before_suffix.Goals.{in_default-via-then-words-lt2, in_default-via-in-len2-up+else-eq}
 
-pub returns-then-same : goal.returns-then-same
-returns-then-same c = ap (λ n. Some (take n c.args.words.now)) (sub-zero _) ∙ suffix_is c.args.key c.args.words.now _ _ true c.if-n-lt2.false c.text.ensures c.if-same.ensures
+pub returns-in-len2-up : goal.returns-in-len2-up
+returns-in-len2-up c = suffix_is c.args.key c.args.words.now _ _ true c.in-len2-up.len_at_least c.text.ensures c.if-eq.ensures
 
-pub returns-else-same : goal.returns-else-same
-returns-else-same c = suffix_is c.args.key c.args.words.now _ _ false c.if-n-lt2.false c.text.ensures c.if-same.ensures
+pub returns-in_default : goal.returns-in_default
+returns-in_default c = elim c.in_default.branch [
+  | in_default-via-then-words-lt2 w ↦ suffix_short c.args.key c.args.words.now (omega (arith, ltb-true))
+  | in_default-via-in-len2-up+else-eq w ↦ suffix_is c.args.key c.args.words.now _ _ false w.in-len2-up.len_at_least w.text.ensures w.if-eq.ensures
+]

@@ -1,14 +1,15 @@
-use Rattle.std.proofs.Common.{length, sym, ap, ◌∙◌, arith}
-use Rattle.script.specs.Forms.{first_suiting}
-use Rattle.script.proofs.Looks.{hit, miss, end}
+use Rattle.std.proofs.Common.{sym, ◌∙◌, rules}
+use borrow.Author.Tests.{tests}
+use Rattle.std.proofs.lemmas.Iterator.{YieldsList-from_slice}
+use Rattle.std.proofs.lemmas.Iterator.Adapters.{option_map_id}
+use Rattle.std.proofs.lemmas.Iterator.Consumers.{YieldsList-from_copied}
+use Rattle.std.proofs.lemmas.Iterator.Search.{find_from_yields_List}
+use Rattle.script.specs.Verbs.{verbs}
+use Rattle.script.specs.Forms.{begins}
 use Rattle.script.proofs.Shapes.{suiting}
 use Rattle.script.proofs.lines.reads.choose.Goals as goal
 
-pub returns-then-begins : goal.returns-then-begins
-returns-then-begins c = hit (suiting c.args.word.now c.args.rest.now) c.all-verbs.result c.loop-i.i _ (omega (arith, c.loop-i-test.true, ap length c.all-verbs.ensures)) c.loop-i.invariant (sym c.if-begins.ensures) ∙ ap (first_suiting c.args.word.now c.args.rest.now) c.all-verbs.ensures
-
-pub loop-i-preserved : goal.loop-i-preserved
-loop-i-preserved c = miss (suiting c.args.word.now c.args.rest.now) c.all-verbs.result c.loop-i.i _ (omega (arith, c.loop-i-test.true, ap length c.all-verbs.ensures)) c.loop-i.invariant (sym c.if-begins.ensures)
-
 pub returns : goal.returns
-returns c = end (suiting c.args.word.now c.args.rest.now) c.all-verbs.result c.loop-i.i (omega (arith, c.loop-i-test.false, ap length c.all-verbs.ensures)) c.loop-i.invariant ∙ ap (first_suiting c.args.word.now c.args.rest.now) c.all-verbs.ensures
+returns c =
+    let found = find_from_yields_List (begins c.args.word.now c.args.rest.now) _ _ c.find.result c.find.ensures.ran (YieldsList-from_copied (YieldsList-from_slice verbs (cc))) (λ x b q k. search (rules, tests)) in
+    sym (option_map_id c.find.result) ∙ found ∙ suiting c.args.word.now c.args.rest.now verbs

@@ -1,15 +1,19 @@
-use Rattle.std.proofs.Common.{length, sym, ap, ◌∙◌, arith}
+use Rattle.std.proofs.Common.{cond, sym, ap, ◌∙◌, rules}
+use borrow.Author.Tests.{tests}
+use Rattle.std.proofs.lemmas.Iterator.{YieldsList-from_slice}
+use Rattle.std.proofs.lemmas.Iterator.Search.{any_from_yields_List}
+use Rattle.script.specs.declared.faults.Fault.TheVariants.{Shape, Unknown}
+use Rattle.script.specs.Verbs.{verbs, verb_text}
 use Rattle.script.specs.Texts.{same_text}
-use Rattle.script.specs.Forms.{misfit_of}
-use Rattle.script.proofs.Looks.{hit, miss, end}
 use Rattle.script.proofs.Shapes.{misfits}
 use Rattle.script.proofs.lines.reads.misfit.Goals as goal
 
-pub returns-then-same : goal.returns-then-same
-returns-then-same c = hit (misfits c.args.word.now) c.all-verbs.result c.loop-i.i _ (omega (arith, c.loop-i-test.true, ap length c.all-verbs.ensures)) c.loop-i.invariant (sym (c.if-same.ensures ∙ ap (same_text c.args.word.now) c.text.ensures)) ∙ ap (misfit_of c.args.word.now) c.all-verbs.ensures
+pub returns-then-any : goal.returns-then-any
+returns-then-any c =
+    let found = any_from_yields_List (λ v. same_text c.args.word.now (verb_text v)) _ _ c.any.result c.any.ensures.ran (YieldsList-from_slice verbs (cc)) (λ x b q k. search (rules, tests)) in
+    ap (λ b. cond b Shape Unknown) (sym c.if-any.true ∙ found) ∙ misfits c.args.word.now verbs
 
-pub loop-i-preserved : goal.loop-i-preserved
-loop-i-preserved c = miss (misfits c.args.word.now) c.all-verbs.result c.loop-i.i _ (omega (arith, c.loop-i-test.true, ap length c.all-verbs.ensures)) c.loop-i.invariant (sym (c.if-same.ensures ∙ ap (same_text c.args.word.now) c.text.ensures))
-
-pub returns : goal.returns
-returns c = end (misfits c.args.word.now) c.all-verbs.result c.loop-i.i (omega (arith, c.loop-i-test.false, ap length c.all-verbs.ensures)) c.loop-i.invariant ∙ ap (misfit_of c.args.word.now) c.all-verbs.ensures
+pub returns-else-any : goal.returns-else-any
+returns-else-any c =
+    let found = any_from_yields_List (λ v. same_text c.args.word.now (verb_text v)) _ _ c.any.result c.any.ensures.ran (YieldsList-from_slice verbs (cc)) (λ x b q k. search (rules, tests)) in
+    ap (λ b. cond b Shape Unknown) (sym c.if-any.false ∙ found) ∙ misfits c.args.word.now verbs
