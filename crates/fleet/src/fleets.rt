@@ -75,7 +75,7 @@ pub enum Act {
     Keep(Target, Data),
     /// A bad program loads another and does not put it in.
     Run(Digest),
-    /// Power is lost while the chip counts: before, or after, the counter was written.
+    /// Power is lost while the chip counts; and whether the counter was written by then.
     CutCount(bool),
     /// Power is lost while the chip closes: the number is used up.
     CutClose,

@@ -1,9 +1,7 @@
 //! Making a fleet.
 
-ghost use Rattle.std.specs.Prelude.{IfOk, vec_items};
-ghost use Rattle.boot.specs.Machines.{new_machine};
-ghost use Rattle.verifier.specs.Seats.{new_seat};
-ghost use Rattle.fleet.specs.Makes.{Each, Begins};
+ghost use Rattle.std.specs.Prelude.{IfOk};
+ghost use Rattle.fleet.specs.Makes.{Begins};
 
 use crate::fleets::{Fleet, Outside};
 use boot::disks::Disk;
@@ -24,8 +22,8 @@ impl Fleet {
         ensures { IfOk result (λ f. Begins first bad.now machines judges f) }
     {
         let bad = Vec::from_slice(heap, bad)?;
-        let machines = new_machines(heap, machines)?;
-        let judges = new_judges(heap, first, judges)?;
+        let machines = (0..machines).map(Machine::new).collect(heap)?;
+        let judges = (0..judges).map(|_| Judge::new(heap, first)).collect(heap)?;
         let outside = Outside {
             first,
             bad,
@@ -39,16 +37,4 @@ impl Fleet {
             outside,
         })
     }
-}
-
-fn new_machines(heap: Global, n: u32) -> Result<Vec<Machine>, AllocError>
-    ensures { IfOk result (λ v. Each new_machine n (vec_items v)) }
-{
-    (0..n).map(Machine::new).collect(heap)
-}
-
-fn new_judges(heap: Global, first: Digest, n: u32) -> Result<Vec<Judge>, AllocError>
-    ensures { IfOk result (λ v. Each (λ _. new_seat first) n (vec_items v)) }
-{
-    (0..n).map(|_| Judge::new(heap, first)).collect(heap)
 }
