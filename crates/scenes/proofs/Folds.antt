@@ -1,55 +1,50 @@
--- The steps of the loops over programs and copies.
-use Rattle.std.proofs.Common.{◌≡◌, ℕ, ◌+◌, ◌<◌, ◌≤◌, false, List, [], ◌∷◌, ◌++◌, map, length, get_or, drop, Some, None, Option, sym, refl, ap, ◌∙◌, arith}
-use Rattle.std.proofs.lemmas.List.{at_drop_more, at_drop_all, append_assoc, append-nil}
-use Rattle.device.specs.declared.digests.Digest.{Digest}
+-- Searches and folds over programs and copies, by the library's.
+use Rattle.std.proofs.Common.{◌≡◌, ℕ, ◌+◌, ◌<◌, ◌≤◌, Bool, true, false, cond, List, [], ◌∷◌, length, get_or, drop, Some, None, Option, sym, refl, ap, ◌∙◌}
+use Rattle.std.proofs.lemmas.List.{at_drop_more, at_drop_all}
+use Rattle.std.specs.List.{find}
+use Rattle.std.specs.Option.{option_map}
+use Rattle.device.specs.declared.registers.Register.{Register}
 use Rattle.device.specs.Rows.{pushed}
+use Rattle.boot.specs.declared.disks.StartList.{StartList}
 use Rattle.script.specs.declared.labels.Label.{Label}
 use Rattle.script.specs.Labels.{same_label}
-use Rattle.script.proofs.Looks.{Looks}
-use Rattle.scenes.specs.Names.{digest_of, no_target}
-use Rattle.scenes.specs.Steps.{go_on, row_from, only, added_name, names_from}
+use Rattle.script.proofs.Tries.{and_on, tried}
+use Rattle.scenes.specs.declared.stages.Kept.{Kept}
+use Rattle.scenes.specs.Names.{digest_of}
+use Rattle.scenes.specs.Steps.{go_on, row_from, added_name, names_from}
 use Rattle.scenes.specs.Scenes.{latest}
 
--- F takes the elements in one after another, until there is no room
-pub record Folds {S A : Type 0} (f : S → A → Option S) (F : S → List A → Option S) : Type 0 where
-  pub none : (s : S) → F s [] ≡ Some s
-  pub more : (s : S) (x : A) (xs : List A) → F s (x ∷ xs) ≡ go_on (f s x) (λ t. F t xs)
+each : {A B : Type 0} (o : Option A) (f g : A → Option B) → ((x : A) → f x ≡ g x) → and_on o f ≡ go_on o g
+each None f g h = refl
+each (Some x) f g h = h x
 
-module _ {S A : Type 0} {f : S → A → Option S} {F : S → List A → Option S} (k : Folds f F) where
-  pub next : (s : S) (xs : List A) (i : ℕ) (d : A) (r t : Option S) → i < length xs → r ≡ f s (get_or xs i d) → F s (drop i xs) ≡ t → go_on r (λ q. F q (drop (i + 1) xs)) ≡ t
-  next s xs i d r t l e inv = ap (λ q. go_on q (λ v. F v (drop (i + 1) xs))) e ∙ sym (k.more s (get_or xs i d) (drop (i + 1) xs)) ∙ sym (at_drop_more (F s) xs i d l) ∙ inv
-
-  pub all : (s : S) (xs : List A) (i : ℕ) (t : Option S) → length xs ≤ i → F s (drop i xs) ≡ t → Some s ≡ t
-  all s xs i t l inv = sym (k.none s) ∙ sym (at_drop_all (F s) xs i l) ∙ inv
-
-pub rows : Folds (λ r l. pushed r (digest_of l)) row_from
+rows_here : (r : Register) (l : Label) (ls : List Label) → row_from r (l ∷ ls) ≡ go_on (pushed r (digest_of l)) (λ q. row_from q ls)
 unfolding row_from
-rows = record { none = λ r. refl; more = λ r l ls. refl }
+rows_here r l ls = refl
 
-pub lists : Folds added_name names_from
+rows_nil : (r : Register) → row_from r [] ≡ Some r
+unfolding row_from
+rows_nil r = refl
+
+-- the next program, and none left
+pub rows_next : (r : Register) (ls : List Label) (i : ℕ) (l : Label) (o t : Option Register) → i < length ls → o ≡ pushed r (digest_of (get_or ls i l)) → row_from r (drop i ls) ≡ t → go_on o (λ q. row_from q (drop (i + 1) ls)) ≡ t
+rows_next r ls i l o t h e inv = ap (λ q. go_on q (λ v. row_from v (drop (i + 1) ls))) e ∙ sym (rows_here r (get_or ls i l) (drop (i + 1) ls)) ∙ sym (at_drop_more (row_from r) ls i l h) ∙ inv
+
+pub rows_all : (r : Register) (ls : List Label) (i : ℕ) (t : Option Register) → length ls ≤ i → row_from r (drop i ls) ≡ t → Some r ≡ t
+rows_all r ls i t h inv = sym (rows_nil r) ∙ sym (at_drop_all (row_from r) ls i h) ∙ inv
+
+pub lists : (s : StartList) (ls : List Label) → tried added_name s ls ≡ names_from s ls
 unfolding names_from
-lists = record { none = λ s. refl; more = λ s l ls. refl }
+lists s [] = refl
+lists s (l ∷ ls) = each (added_name s l) _ _ (λ q. lists q ls)
 
-pub copies : (n : Label) → Looks (λ k. same_label k.name n) (λ k. Some k.answer) None (latest n)
+-- ---- copies
+
+pub latest_found : {A : Type 0} (n : Label) (ks : List (Kept A)) → option_map (λ k. k.what) (find (λ (k : Kept A). same_label k.name n) ks) ≡ latest n ks
 unfolding latest
-copies n = record { none = refl; more = λ k ks. refl }
-
--- ---- digests
-
-pub digests_next : (ds : List Digest) (ls : List Label) (i : ℕ) (d : Label) (t : List Digest) → i < length ls → ds ++ map digest_of (drop i ls) ≡ t → (ds ++ digest_of (get_or ls i d) ∷ []) ++ map digest_of (drop (i + 1) ls) ≡ t
-digests_next ds ls i d t l inv = append_assoc ds (digest_of (get_or ls i d) ∷ []) (map digest_of (drop (i + 1) ls)) ∙ ap (λ ys. ds ++ ys) (sym (at_drop_more (map digest_of) ls i d l)) ∙ inv
-
-pub digests_all : (ds : List Digest) (ls : List Label) (i : ℕ) (t : List Digest) → length ls ≤ i → ds ++ map digest_of (drop i ls) ≡ t → ds ≡ t
-digests_all ds ls i t l inv = sym (append-nil ds) ∙ ap (λ ys. ds ++ ys) (sym (at_drop_all (map digest_of) ls i l)) ∙ inv
-
--- ---- a row of one word
-
-pub only_one : (ls : List Label) (d : Label) → length ls ≡ 1 → same_label (get_or ls 0 d) no_target ≡ only ls
-only_one [] d e = absurd (omega arith)
-only_one (l ∷ []) d e = refl
-only_one (l ∷ k ∷ ls) d e = absurd (omega arith)
-
-pub only_not : (ls : List Label) → (length ls ≡ 1 → ⊥) → false ≡ only ls
-only_not [] n = refl
-only_not (l ∷ []) n = absurd (n refl)
-only_not (l ∷ k ∷ ls) n = refl
+latest_found {A = A} n [] = refl
+latest_found {A = A} n (k ∷ ks) = chosen (same_label k.name n) _ _ (latest_found n ks)
+  where
+    chosen : (b : Bool) (o : Option (Kept A)) (p : Option A) → option_map (λ k. k.what) o ≡ p → option_map (λ k. k.what) (cond b (Some k) o) ≡ cond b (Some k.what) p
+    chosen true o p h = refl
+    chosen false o p h = h

@@ -1,3 +1,4 @@
 pub mod Names
 pub mod Steps
+pub mod Kept
 pub mod Scenes

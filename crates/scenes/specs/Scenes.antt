@@ -1,7 +1,5 @@
 -- What each step does to a stage, and what comes of it.
-use Rattle.std.specs.Prelude.{◌≡◌, ℕ, Bool, true, cond, List, [], ◌∷◌, Some, None, Ok, Err, vec_items, Option, Result}
-use Rattle.std.specs.Option.{option_map}
-use Rattle.device.specs.declared.chips.Answer.{Answer}
+use Rattle.std.specs.Prelude.{◌≡◌, ℕ, Bool, true, cond, List, [], ◌∷◌, Some, None, Ok, Err, Option, Result}
 use Rattle.device.specs.declared.chips.Answer.TheVariants as answer
 use Rattle.device.specs.declared.chips.Command.TheVariants as command
 use Rattle.device.specs.declared.chips.Signature.{Signature}
@@ -14,10 +12,11 @@ use Rattle.verifier.specs.Searches.{some}
 use Rattle.fleet.specs.declared.fleets.Act.TheVariants as act
 use Rattle.fleet.specs.declared.fleets.Event.{Event}
 use Rattle.fleet.specs.declared.fleets.Event.TheVariants as event
+use Rattle.fleet.specs.declared.fleets.Fault.{Fault as FleetFault}
 use Rattle.fleet.specs.declared.fleets.Report.{Report}
 use Rattle.fleet.specs.declared.fleets.Report.TheVariants as report
 use Rattle.fleet.specs.Makes.{Begins}
-use Rattle.fleet.specs.Sights.{Sight, sight, found, played}
+use Rattle.fleet.specs.Sights.{Sight, found, played}
 use Rattle.script.specs.declared.faults.Fault.{Fault}
 use Rattle.script.specs.declared.faults.Fault.TheVariants as fault
 use Rattle.script.specs.declared.labels.Label.{Label}
@@ -26,71 +25,39 @@ use Rattle.script.specs.Labels as labels
 use Rattle.scenes.specs.declared.stages.Kept.{Kept}
 use Rattle.scenes.specs.declared.stages.Outcome.{Outcome}
 use Rattle.scenes.specs.declared.stages.Outcome.TheVariants as outcome
-use Rattle.scenes.specs.declared.stages.Stage.{Stage}
 use Rattle.scenes.specs.declared.steps.Step.{Step}
 use Rattle.scenes.specs.declared.steps.Step.TheVariants as step
+use Rattle.scenes.specs.Kept.{Scene}
 use Rattle.scenes.specs.Names.{first_of}
-
--- a stage without its memory
-pub record Scene : Type 0 where
-  pub fleet : Sight
-  pub kept : List Kept
-
-abbrev pub scene : Stage → Scene
-scene s = record { fleet = sight s.fleet; kept = vec_items s.kept }
 
 -- a new fleet, and nothing kept
 pub record Opens (bad : List Digest) (machines judges : ℕ) (s : Scene) : Type 0 where
   pub begins : Begins first_of bad machines judges s.fleet
-  pub empty : s.kept ≡ []
+  pub no_signatures : s.signatures ≡ []
+  pub no_things : s.things ≡ []
 
 -- ---- copies
 
--- the latest under this name
-unfoldable pub latest : Label → List Kept → Option Answer
+-- the latest under this name; a signature and a thing of one name do not hide each other
+unfoldable pub latest : {A : Type 0} → Label → List (Kept A) → Option A
 latest n [] = None
-latest n (k ∷ ks) = cond (same_label k.name n) (Some k.answer) (latest n ks)
+latest n (k ∷ ks) = cond (same_label k.name n) (Some k.what) (latest n ks)
 
-abbrev pub thing_in : Option Answer → Option Thing
-thing_in None = None
-thing_in (Some answer.Done) = None
-thing_in (Some (answer.Signed g)) = None
-thing_in (Some (answer.Counter n)) = None
-thing_in (Some (answer.Closed y)) = Some y
-thing_in (Some (answer.Opened d)) = None
-thing_in (Some (answer.Now n r)) = None
-thing_in (Some (answer.Refused k)) = None
+abbrev pub with_fleet : Sight → Scene → Scene
+with_fleet x s = record { fleet = x; signatures = s.signatures; things = s.things }
 
-abbrev pub signature_in : Option Answer → Option Signature
-signature_in None = None
-signature_in (Some answer.Done) = None
-signature_in (Some (answer.Signed g)) = Some g
-signature_in (Some (answer.Counter n)) = None
-signature_in (Some (answer.Closed y)) = None
-signature_in (Some (answer.Opened d)) = None
-signature_in (Some (answer.Now n r)) = None
-signature_in (Some (answer.Refused k)) = None
-
--- what is kept of a report: a signature or a thing
-abbrev pub copy_in : Report → Option Answer
-copy_in report.Done = None
-copy_in (report.Refused k) = None
-copy_in report.Unwilling = None
-copy_in report.Nobody = None
-copy_in report.NoMemory = None
-copy_in (report.Answered answer.Done) = None
-copy_in (report.Answered (answer.Signed g)) = Some (answer.Signed g)
-copy_in (report.Answered (answer.Counter n)) = None
-copy_in (report.Answered (answer.Closed y)) = Some (answer.Closed y)
-copy_in (report.Answered (answer.Opened d)) = None
-copy_in (report.Answered (answer.Now n r)) = None
-copy_in (report.Answered (answer.Refused k)) = None
-copy_in (report.Told x) = None
-copy_in (report.Accepted n r f o) = None
-
-abbrev pub with_copy : Label → Option Answer → List Kept → List Kept
-with_copy n None ks = ks
-with_copy n (Some a) ks = record { name = n; answer = a } ∷ ks
+-- with a copy of what was reported: of a signature or a thing
+abbrev pub with_copy : Label → Result Report FleetFault → Scene → Scene
+with_copy n (Ok report.Done) s = s
+with_copy n (Ok (report.Answered answer.Done)) s = s
+with_copy n (Ok (report.Answered (answer.Signed g))) s = record { fleet = s.fleet; signatures = record { name = n; what = g } ∷ s.signatures; things = s.things }
+with_copy n (Ok (report.Answered (answer.Counter x))) s = s
+with_copy n (Ok (report.Answered (answer.Closed y))) s = record { fleet = s.fleet; signatures = s.signatures; things = record { name = n; what = y } ∷ s.things }
+with_copy n (Ok (report.Answered (answer.Opened d))) s = s
+with_copy n (Ok (report.Answered (answer.Now x r))) s = s
+with_copy n (Ok (report.Told x)) s = s
+with_copy n (Ok (report.Accepted x o)) s = s
+with_copy n (Err f) s = s
 
 -- ---- steps
 
@@ -106,15 +73,15 @@ found_in (Err e) = true
 
 -- what the fleet reports, f: whether it found memory
 abbrev pub reported : Bool → Scene → Event → List Digest → Scene × Result Outcome Fault
-reported f s e ds = (record { fleet = (played f s.fleet e ds).0; kept = s.kept }, Ok (outcome.Reported (played f s.fleet e ds).1))
+reported f s e ds = (with_fleet (played f s.fleet e ds).0 s, Ok (outcome.Reported (played f s.fleet e ds).1))
 
 -- the same with a copy of it
-abbrev pub copied : Label → List Kept → Sight × Report → Scene × Result Outcome Fault
-copied n ks q = (record { fleet = q.0; kept = with_copy n (copy_in q.1) ks }, Ok (outcome.Reported q.1))
+abbrev pub copied : Label → Scene → Sight × Result Report FleetFault → Scene × Result Outcome Fault
+copied n s q = (with_copy n q.1 (with_fleet q.0 s), Ok (outcome.Reported q.1))
 
 -- m: whether memory was found for the copy
 abbrev pub kept_by : Bool → Bool → Scene → Event → Label → Scene × Result Outcome Fault
-kept_by m f s e n = cond m (copied n s.kept (played f s.fleet e [])) (s, Err fault.NoMemory)
+kept_by m f s e n = cond m (copied n s (played f s.fleet e [])) (s, Err fault.NoMemory)
 
 abbrev pub opened_by : Bool → Scene → ℕ → Option Thing → Scene × Result Outcome Fault
 opened_by f s i None = (s, Err fault.NotKept)
@@ -129,8 +96,8 @@ abbrev pub taken : Bool → Bool → Scene → Step → List Digest → Scene ×
 taken m f s (step.Fleet x y) ds = (s, Err fault.Shape)
 taken m f s (step.Play e) ds = reported f s e ds
 taken m f s (step.Keep e n) ds = kept_by m f s e n
-taken m f s (step.Open i n) ds = opened_by f s i (thing_in (latest n s.kept))
-taken m f s (step.Answer j a d l n) ds = answered_by f s j a d l (signature_in (latest n s.kept))
+taken m f s (step.Open i n) ds = opened_by f s i (latest n s.things)
+taken m f s (step.Answer j a d l n) ds = answered_by f s j a d l (latest n s.signatures)
 taken m f s (step.Has d) ds = (s, Ok (outcome.Has (some (same_data d) s.fleet.heard)))
 
 -- a refused step changes nothing
@@ -139,6 +106,6 @@ Refuses s t (Ok o) = Unit {0}
 Refuses s t (Err e) = t ≡ s
 
 -- the same of a stage that may not be there yet
-abbrev pub Keeps : Option Stage → Option Stage → Result Outcome Fault → Type 0
+abbrev pub Keeps : Option Scene → Option Scene → Result Outcome Fault → Type 0
 Keeps s t (Ok o) = Unit {0}
-Keeps s t (Err e) = option_map scene t ≡ option_map scene s
+Keeps s t (Err e) = t ≡ s

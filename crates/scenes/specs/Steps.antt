@@ -1,5 +1,5 @@
 -- What each line asks for.
-use Rattle.std.specs.Prelude.{◌+◌, Bool, true, false, cond, List, [], ◌∷◌, replicate, Some, None, Ok, Err, Option, Result, nat_lt, slice_set}
+use Rattle.std.specs.Prelude.{ℕ, ◌+◌, Bool, true, false, cond, List, [], ◌∷◌, replicate, Some, None, Ok, Err, Option, Result, nat_lt, slice_set}
 use Rattle.device.specs.declared.chips.Command.TheVariants as command
 use Rattle.device.specs.declared.chips.Target.{Target}
 use Rattle.device.specs.declared.chips.Target.TheVariants as target
@@ -13,11 +13,12 @@ use Rattle.fleet.specs.declared.fleets.Act.{Act}
 use Rattle.fleet.specs.declared.fleets.Act.TheVariants as act
 use Rattle.fleet.specs.declared.fleets.Event.TheVariants as event
 use Rattle.script.specs.declared.faults.Fault.{Fault}
-use Rattle.script.specs.declared.faults.Fault.TheVariants.{TooMany}
+use Rattle.script.specs.declared.faults.Fault.TheVariants.{TooMany, NoFleet, NotKept}
 use Rattle.script.specs.declared.labels.Label.{Label}
 use Rattle.script.specs.declared.lines.Line.{Line}
-use Rattle.script.specs.declared.verbs.Verb.{Verb}
-use Rattle.script.specs.declared.verbs.Verb.TheVariants as verb
+use Rattle.script.specs.declared.lines.Line.TheVariants as line
+use Rattle.script.specs.declared.lines.When.{When}
+use Rattle.script.specs.declared.lines.When.TheVariants.{Before, After}
 use Rattle.script.specs.Labels.{same_label}
 use Rattle.scenes.specs.declared.steps.Step.{Step}
 use Rattle.scenes.specs.declared.steps.Step.TheVariants.{Fleet, Play, Keep, Open, Answer, Has}
@@ -65,53 +66,79 @@ names_from s (l ∷ ls) = go_on (added_name s l) (λ t. names_from t ls)
 
 -- ---- steps
 
-abbrev pub at_of : Line → Act → Step
-at_of l a = Play (event.At l.first a)
+abbrev pub at_of : ℕ → Act → Step
+at_of i a = Play (event.At i a)
 
-abbrev pub kept_of : Line → Act → Step
-kept_of l a = Keep (event.At l.first a) l.other
+-- the same, where what comes of it is kept
+abbrev pub kept_of : ℕ → Act → Label → Step
+kept_of i a n = Keep (event.At i a) n
 
-abbrev pub office_of : Line → Word → Step
-office_of l w = Play (event.Office l.first w None)
+abbrev pub office_of : ℕ → Word → Step
+office_of j w = Play (event.Office j w None)
 
 -- a program under its own name, and what stands there once it was read
 abbrev pub file_of : Label → Label → Step
 file_of l k = Play (event.Write (name_of l) (file.Program (digest_of l)) (file.Program (digest_of k)))
 
-abbrev pub written_of : Line → StartList → Step
-written_of l s = Play (event.Write (name_of l.name) (file.List s) (file.List s))
+-- itself, where no other is named
+abbrev pub then_of : Label → Option Label → Label
+then_of l None = l
+then_of l (Some k) = k
 
--- a start list of these programs, and of the line's other name if a further list follows
-abbrev pub list_of : Line → Bool → List Label → Result Step Fault
-list_of l b ls = or_too_many (go_on (names_from (no_names b) ls) (λ s. cond b (added_name s l.other) (Some s))) (written_of l)
+abbrev pub written_of : Label → StartList → Step
+written_of l s = Play (event.Write (name_of l) (file.List s) (file.List s))
 
--- the step of a line of this verb, with these programs
-abbrev pub step_of : Verb → Line → List Label → Result Step Fault
-step_of verb.Fleet l ps = Ok (Fleet l.first l.second)
-step_of verb.Wipe l ps = Ok (Play event.Wipe)
-step_of verb.File l ps = Ok (file_of l.name l.name)
-step_of verb.FileThen l ps = Ok (file_of l.name l.other)
-step_of verb.List l ps = list_of l false ps
-step_of verb.ListFurther l ps = list_of l true ps
-step_of verb.Switch l ps = Ok (at_of l act.Switch)
-step_of verb.Start l ps = Ok (at_of l (act.Start (name_of l.name)))
-step_of verb.Load l ps = Ok (at_of l (act.Load (name_of l.name)))
-step_of verb.Put l ps = Ok (at_of l (act.Give (command.Put (digest_of l.name))))
-step_of verb.Run l ps = Ok (at_of l (act.Run (digest_of l.name)))
-step_of verb.Sign l ps = Ok (kept_of l (act.Give (command.Sign (data_of l.name))))
-step_of verb.Count l ps = Ok (at_of l (act.Give command.Count))
-step_of verb.Read l ps = Ok (at_of l (act.Give command.Read))
-step_of verb.Keep l ps = or_too_many (target_of ps) (λ t. kept_of l (act.Keep t (data_of l.name)))
-step_of verb.Close l ps = or_too_many (target_of ps) (λ t. kept_of l (act.Give (command.Close t (data_of l.name))))
-step_of verb.Open l ps = Ok (Open l.first l.name)
-step_of verb.CutCount l ps = Ok (at_of l (act.CutCount l.after))
-step_of verb.CutClose l ps = Ok (at_of l act.CutClose)
-step_of verb.Chip l ps = Ok (office_of l (word.Chip l.second))
-step_of verb.Good l ps = Ok (office_of l word.Good)
-step_of verb.Rows l ps = Ok (office_of l (word.List l.list))
-step_of verb.Ticks l ps = Ok (office_of l (word.Ticks l.second))
-step_of verb.Ask l ps = Ok (Play (event.Office l.first (word.Ask l.second) (Some (data_of l.name))))
-step_of verb.Answer l ps = Ok (Answer l.first l.second (data_of l.name) l.list l.other)
-step_of verb.Fall l ps = Ok (Play (event.Fall l.first))
-step_of verb.Net l ps = Ok (Play (event.Net l.first (word.Chip l.second)))
-step_of verb.Has l ps = Ok (Has (data_of l.name))
+-- with the name of a further list, if there is one
+abbrev pub with_further : Option Label → StartList → Option StartList
+with_further None s = Some s
+with_further (Some k) s = added_name s k
+
+abbrev pub is_further : Option Label → Bool
+is_further None = false
+is_further (Some k) = true
+
+-- a start list of these programs, and of the other name if a further list follows
+abbrev pub list_of : Label → Option Label → List Label → Result Step Fault
+list_of l o ls = or_too_many (go_on (names_from (no_names (is_further o)) ls) (with_further o)) (written_of l)
+
+abbrev pub is_after : When → Bool
+is_after Before = false
+is_after After = true
+
+-- the step of a line with these programs
+abbrev pub step_of : Line → List Label → Result Step Fault
+step_of (line.Fleet m j) ps = Ok (Fleet m j)
+step_of line.Wipe ps = Ok (Play event.Wipe)
+step_of (line.File l o) ps = Ok (file_of l (then_of l o))
+step_of (line.List l o) ps = list_of l o ps
+step_of (line.Switch i) ps = Ok (at_of i act.Switch)
+step_of (line.Start i l) ps = Ok (at_of i (act.Start (name_of l)))
+step_of (line.Load i l) ps = Ok (at_of i (act.Load (name_of l)))
+step_of (line.Put i l) ps = Ok (at_of i (act.Give (command.Put (digest_of l))))
+step_of (line.Run i l) ps = Ok (at_of i (act.Run (digest_of l)))
+step_of (line.Sign i l n) ps = Ok (kept_of i (act.Give (command.Sign (data_of l))) n)
+step_of (line.Count i) ps = Ok (at_of i (act.Give command.Count))
+step_of (line.Read i) ps = Ok (at_of i (act.Give command.Read))
+step_of (line.Keep i l n) ps = or_too_many (target_of ps) (λ t. kept_of i (act.Keep t (data_of l)) n)
+step_of (line.Close i l n) ps = or_too_many (target_of ps) (λ t. kept_of i (act.Give (command.Close t (data_of l))) n)
+step_of (line.Open i n) ps = Ok (Open i n)
+step_of (line.CutCount i b) ps = Ok (at_of i (act.CutCount (is_after b)))
+step_of (line.CutClose i) ps = Ok (at_of i act.CutClose)
+step_of (line.Chip j a) ps = Ok (office_of j (word.Chip a))
+step_of (line.Good j) ps = Ok (office_of j word.Good)
+step_of (line.Rows j n) ps = Ok (office_of j (word.List n))
+step_of (line.Ticks j n) ps = Ok (office_of j (word.Ticks n))
+step_of (line.Ask j a l) ps = Ok (Play (event.Office j (word.Ask a) (Some (data_of l))))
+step_of (line.Answer j a l n k) ps = Ok (Answer j a (data_of l) n k)
+step_of (line.Fall j) ps = Ok (Play (event.Fall j))
+step_of (line.Net j a) ps = Ok (Play (event.Net j (word.Chip a)))
+step_of (line.Has l) ps = Ok (Has (data_of l))
+
+-- why a step is not played while there is no fleet: nothing is kept without one
+abbrev pub missing_for : Step → Fault
+missing_for (Fleet m j) = NoFleet
+missing_for (Play e) = NoFleet
+missing_for (Keep e n) = NoFleet
+missing_for (Open i n) = NotKept
+missing_for (Answer j a d l n) = NotKept
+missing_for (Has d) = NoFleet

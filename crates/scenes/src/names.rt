@@ -26,6 +26,7 @@ pub fn nowhere() -> Label
     }
 }
 
+// Functions and no `From`, here and below: neither a label nor what is made of it is of this crate.
 pub fn digest(label: Label) -> Digest
     ensures { result ≡ digest_of label }
 {
@@ -48,9 +49,8 @@ pub fn name(label: Label) -> Name
 fn wide(label: Label) -> [u8; 32]
     ensures { result ≡ wide label }
 {
-    let narrow = label.bytes;
     let mut bytes = [0; 32];
-    bytes[0..16].copy_from_slice(&narrow);
+    bytes[..16].copy_from_slice(&label.bytes);
     bytes
 }
 
@@ -58,9 +58,5 @@ fn wide(label: Label) -> [u8; 32]
 pub fn digests(heap: Global, labels: &[Label]) -> Result<Vec<Digest>, AllocError>
     ensures { IfOk result (λ v. v.items ≡ map digest_of labels.now) }
 {
-    let mut digests = Vec::new(heap);
-    for i in 0..labels.len() {
-        digests.push(digest(labels[i]))?;
-    }
-    Ok(digests)
+    labels.iter().map(|label| digest(*label)).collect(heap)
 }

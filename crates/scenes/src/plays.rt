@@ -17,20 +17,22 @@ use std::alloc::Global;
 pub fn play_line(stage: &mut Option<Stage>, heap: Global, line: &str) -> Result<Outcome, Fault>
     ensures refuses { Keeps stage.old stage.new result }
 {
-    let Ok(words) = line.split_whitespace().collect::<Vec<&str>>(heap) else {
-        return Err(Fault::NoMemory);
-    };
+    let words = line.split_whitespace().collect::<Vec<&str>>(heap)?;
     let (line, programs) = read(words.as_slice())?;
     let programs = labels(heap, programs)?;
     let step = step(line, programs.as_slice())?;
-    let Ok(digests) = digests(heap, programs.as_slice()) else {
-        return Err(Fault::NoMemory);
-    };
+    let digests = digests(heap, programs.as_slice())?;
     match step {
-        Step::Fleet(machines, judges) => begin(stage, heap, digests.as_slice(), machines, judges),
+        Step::Fleet { machines, judges } => begin(
+            stage,
+            heap,
+            digests.as_slice(),
+            machines,
+            judges,
+        ),
         step => match stage {
             Some(stage) => stage.take(heap, step, digests.as_slice()),
-            None => Err(Fault::NoFleet),
+            None => Err(step.missing()),
         },
     }
 }
@@ -45,11 +47,6 @@ fn begin(
 ) -> Result<Outcome, Fault>
     ensures refuses { Keeps stage.old stage.new result }
 {
-    match Stage::new(heap, bad, machines, judges) {
-        Ok(new) => {
-            *stage = Some(new);
-            Ok(Outcome::Reported(Report::Done))
-        }
-        Err(_) => Err(Fault::NoMemory),
-    }
+    *stage = Some(Stage::new(heap, bad, machines, judges)?);
+    Ok(Outcome::Reported(Ok(Report::Done)))
 }

@@ -3,28 +3,41 @@
 pub mod looks;
 pub mod takes;
 
-use device::chips::Answer;
-use fleet::fleets::{Fleet, Report};
+use device::chips::{Signature, Thing};
+use fleet::fleets::{Fault, Fleet, Report};
 use script::labels::Label;
+use std::marker::Model;
 
 #[derive(Drop)]
 pub struct Stage {
     fleet: Fleet,
-    /// The latest first.
-    kept: Vec<Kept>,
+    /// The latest first, here and below.
+    signatures: Vec<Kept<Signature>>,
+    things: Vec<Kept<Thing>>,
+}
+
+/// Contracts see a stage without its memory.
+impl Model for Stage {
+    ghost use Rattle.std.specs.Prelude.{vec_items};
+    ghost use Rattle.scenes.specs.Kept.{Scene};
+
+    ghost Value = { Scene };
+
+    ghost view = { λ s. record { fleet = s.fleet; signatures = vec_items s.signatures; things = vec_items s.things } };
 }
 
 /// A signature or a thing, as the chip answered it.
 #[derive(Clone, Copy)]
-pub struct Kept {
+pub struct Kept<T> {
     name: Label,
-    answer: Answer,
+    what: T,
 }
 
 /// What came of a line.
 #[derive(Clone, Copy)]
 pub enum Outcome {
-    Reported(Report),
+    /// What the fleet reports, or why the event came to nothing: the line was played.
+    Reported(Result<Report, Fault>),
     /// Whether outsiders have it.
     Has(bool),
 }

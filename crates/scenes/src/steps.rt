@@ -1,23 +1,51 @@
 //! What a line asks for.
 
+ghost use Rattle.std.specs.Prelude.{◌≡◌};
+ghost use Rattle.scenes.specs.Steps.{missing_for};
+
 pub mod makes;
 
 use device::digests::Data;
 use fleet::fleets::Event;
+use script::faults::Fault;
 use script::labels::Label;
 
 #[derive(Clone, Copy)]
 pub enum Step {
     /// A new fleet of so many machines and judges; the bad programs come beside it.
-    Fleet(u32, u32),
+    Fleet {
+        machines: u32,
+        judges: u32,
+    },
     /// Digests may come beside it.
     Play(Event),
     /// The signature, or the thing, that comes of it is kept under this name.
     Keep(Event, Label),
     /// At this machine, the thing of this name.
-    Open(usize, Label),
-    /// To this judge by the net: chip, question and list, and the signature of this name.
-    Answer(usize, u32, Data, u16, Label),
+    Open {
+        machine: usize,
+        name: Label,
+    },
+    /// To this judge by the net: the signature of this name, as the chip's answer to the question.
+    Answer {
+        judge: usize,
+        chip: u32,
+        data: Data,
+        list: u16,
+        name: Label,
+    },
     /// Whether outsiders have it.
     Has(Data),
+}
+
+impl Step {
+    /// What is missing for this step while there is no fleet: nothing is kept without one.
+    pub fn missing(self) -> Fault
+        ensures { result ≡ missing_for self }
+    {
+        match self {
+            Step::Open { .. } | Step::Answer { .. } => Fault::NotKept,
+            _ => Fault::NoFleet,
+        }
+    }
 }

@@ -1,4 +1,4 @@
 pub mod Tests
-mod Tries
+pub mod Tries
 mod Fills
 mod Shapes

@@ -1,16 +1,16 @@
 //! What a step does to a stage.
 
 ghost use Rattle.std.specs.Prelude.{◌≡◌, [], IfOk};
-ghost use Rattle.scenes.specs.Scenes.{scene, Opens, taken, Refuses, met, found_in, reported, kept_by};
+ghost use Rattle.scenes.specs.Scenes.{Opens, taken, Refuses, met, found_in, reported, kept_by};
 ghost use Rattle.scenes.specs.declared.steps.Step.TheVariants as steps;
 
 use crate::names::first;
-use crate::stages::looks::{copy, signature, thing};
+use crate::stages::looks::find;
 use crate::stages::{Kept, Outcome, Stage};
 use crate::steps::Step;
-use device::chips::Command;
+use device::chips::{Answer, Command};
 use device::digests::{Data, Digest};
-use fleet::fleets::{Act, Event, Fleet};
+use fleet::fleets::{Act, Event, Fleet, Report};
 use script::faults::Fault;
 use script::labels::Label;
 use std::alloc::{AllocError, Global};
@@ -24,87 +24,98 @@ impl Stage {
         machines: u32,
         judges: u32,
     ) -> Result<Stage, AllocError>
-        ensures { IfOk result (λ s. Opens bad.now machines judges (scene s)) }
+        ensures { IfOk result (λ s. Opens bad.now machines judges s) }
     {
         let fleet = Fleet::new(heap, first(), bad, machines, judges)?;
         Ok(Stage {
             fleet,
-            kept: Vec::new(heap),
+            signatures: Vec::new(heap),
+            things: Vec::new(heap),
         })
     }
 
     /// Plays one step; the digests are those that come beside a word to a judge. A refused step changes nothing.
     pub fn take(&mut self, heap: Global, step: Step, digests: &[Digest]) -> Result<Outcome, Fault>
-        ensures exact { (scene self.new, result) ≡ taken (met result) (found_in result) (scene self.old) step digests.now }
-        ensures refuses { Refuses (scene self.old) (scene self.new) result }
+        ensures exact { (self.new, result) ≡ taken (met result) (found_in result) self.old step digests.now }
+        ensures refuses { Refuses self.old self.new result }
     {
         self.play(heap, step, digests)
     }
 
     fn play(&mut self, heap: Global, step: Step, digests: &[Digest]) -> Result<Outcome, Fault>
-        ensures { (scene self.new, result) ≡ taken (met result) (found_in result) (scene self.old) step digests.now }
+        ensures { (self.new, result) ≡ taken (met result) (found_in result) self.old step digests.now }
     {
         match step {
-            Step::Fleet(_, _) => Err(Fault::Shape),
+            Step::Fleet { .. } => Err(Fault::Shape),
             Step::Play(event) => self.report(heap, event, digests),
             Step::Keep(event, name) => self.keep(heap, event, name),
-            Step::Open(i, name) => self.open(heap, i, name),
-            Step::Answer(j, chip, data, list, name) => {
-                self.answer(heap, j, chip, data, list, name)
-            }
+            Step::Open { machine, name } => self.open(heap, machine, name),
+            Step::Answer {
+                judge,
+                chip,
+                data,
+                list,
+                name,
+            } => self.answer(heap, judge, chip, data, list, name),
             Step::Has(data) => Ok(Outcome::Has(self.fleet.has(data))),
         }
     }
 
     fn report(&mut self, heap: Global, event: Event, digests: &[Digest]) -> Result<Outcome, Fault>
-        ensures { (scene self.new, result) ≡ reported (found_in result) (scene self.old) event digests.now }
+        ensures { (self.new, result) ≡ reported (found_in result) self.old event digests.now }
     {
         Ok(Outcome::Reported(self.fleet.play(heap, event, digests)))
     }
 
     /// A signature or a thing that comes is kept. There is room for it before anything is played.
     fn keep(&mut self, heap: Global, event: Event, name: Label) -> Result<Outcome, Fault>
-        ensures { (scene self.new, result) ≡ kept_by (met result) (found_in result) (scene self.old) event name }
+        ensures { (self.new, result) ≡ kept_by (met result) (found_in result) self.old event name }
     {
-        if self.kept.reserve(1).is_err() {
-            return Err(Fault::NoMemory);
-        }
+        self.signatures.reserve(1)?;
+        self.things.reserve(1)?;
         let report = self.fleet.play(heap, event, &[]);
-        if let Some(answer) = copy(report) {
-            let _ = self.kept.insert(0, Kept { name, answer });
+        match report {
+            // There is room, so nothing fails here.
+            Ok(Report::Answered(Answer::Signed(what))) => {
+                let _ = self.signatures.insert(0, Kept { name, what });
+            }
+            Ok(Report::Answered(Answer::Closed(what))) => {
+                let _ = self.things.insert(0, Kept { name, what });
+            }
+            _ => {}
         }
         Ok(Outcome::Reported(report))
     }
 
-    fn open(&mut self, heap: Global, i: usize, name: Label) -> Result<Outcome, Fault>
-        ensures { (scene self.new, result) ≡ taken (met result) (found_in result) (scene self.old) (steps.Open i name) [] }
+    fn open(&mut self, heap: Global, machine: usize, name: Label) -> Result<Outcome, Fault>
+        ensures { (self.new, result) ≡ taken (met result) (found_in result) self.old (steps.Open machine name) [] }
     {
-        let Some(thing) = thing(self.kept.as_slice(), name) else {
-            return Err(Fault::NotKept);
-        };
-        self.report(heap, Event::At(i, Act::Give(Command::Open(thing))), &[])
+        let thing = find(self.things.as_slice(), name).ok_or(Fault::NotKept)?;
+        self.report(
+            heap,
+            Event::At(machine, Act::Give(Command::Open(thing))),
+            &[],
+        )
     }
 
     fn answer(
         &mut self,
         heap: Global,
-        j: usize,
+        judge: usize,
         chip: u32,
         data: Data,
         list: u16,
         name: Label,
     ) -> Result<Outcome, Fault>
-        ensures { (scene self.new, result) ≡ taken (met result) (found_in result) (scene self.old) (steps.Answer j chip «data» list name) [] }
+        ensures { (self.new, result) ≡ taken (met result) (found_in result) self.old (steps.Answer judge chip «data» list name) [] }
     {
-        let Some(signature) = signature(self.kept.as_slice(), name) else {
-            return Err(Fault::NotKept);
-        };
+        let signature = find(self.signatures.as_slice(), name).ok_or(Fault::NotKept)?;
         let reply = Reply {
             chip,
             data,
             list,
             signature,
         };
-        self.report(heap, Event::Net(j, Word::Answer(reply)), &[])
+        self.report(heap, Event::Net(judge, Word::Answer(reply)), &[])
     }
 }

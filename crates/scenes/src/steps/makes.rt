@@ -1,7 +1,7 @@
 //! Makes a step of a line and its programs.
 
 ghost use Rattle.std.specs.Prelude.{◌≡◌};
-ghost use Rattle.scenes.specs.Steps.{at_of, kept_of, office_of, file_of, row_from, only, target_of, added_name, names_from, list_of, written_of, no_names, step_of};
+ghost use Rattle.scenes.specs.Steps.{at_of, kept_of, office_of, file_of, then_of, row_from, target_of, added_name, names_from, list_of, written_of, no_names, is_after, step_of};
 ghost use Rattle.device.specs.Rows.{empty_register};
 
 use crate::names::{data, digest, name, nowhere};
@@ -12,80 +12,113 @@ use device::registers::Register;
 use fleet::fleets::{Act, Event};
 use script::faults::Fault;
 use script::labels::Label;
-use script::lines::Line;
-use script::verbs::Verb;
+use script::lines::{Line, When};
 use verifier::judges::Word;
 
 /// The step of this line with these programs.
 pub fn step(line: Line, programs: &[Label]) -> Result<Step, Fault>
-    ensures { result ≡ step_of line.verb line programs.now }
+    ensures { result ≡ step_of line programs.now }
 {
-    match line.verb {
-        Verb::Fleet => Ok(Step::Fleet(line.first, line.second)),
-        Verb::Wipe => Ok(Step::Play(Event::Wipe)),
-        Verb::File => Ok(file(line.name, line.name)),
-        Verb::FileThen => Ok(file(line.name, line.other)),
-        Verb::List => list(line, programs, false),
-        Verb::ListFurther => list(line, programs, true),
-        Verb::Switch => Ok(at(line, Act::Switch)),
-        Verb::Start => Ok(at(line, Act::Start(name(line.name)))),
-        Verb::Load => Ok(at(line, Act::Load(name(line.name)))),
-        Verb::Put => Ok(at(line, Act::Give(Command::Put(digest(line.name))))),
-        Verb::Run => Ok(at(line, Act::Run(digest(line.name)))),
-        Verb::Sign => Ok(kept(line, Act::Give(Command::Sign(data(line.name))))),
-        Verb::Count => Ok(at(line, Act::Give(Command::Count))),
-        Verb::Read => Ok(at(line, Act::Give(Command::Read))),
-        Verb::Keep => match target(programs) {
-            Some(target) => Ok(kept(line, Act::Keep(target, data(line.name)))),
-            None => Err(Fault::TooMany),
-        },
-        Verb::Close => match target(programs) {
-            Some(target) => Ok(kept(line, Act::Give(Command::Close(target, data(line.name))))),
-            None => Err(Fault::TooMany),
-        },
-        Verb::Open => Ok(Step::Open(line.first as usize, line.name)),
-        Verb::CutCount => Ok(at(line, Act::CutCount(line.after))),
-        Verb::CutClose => Ok(at(line, Act::CutClose)),
-        Verb::Chip => Ok(office(line, Word::Chip(line.second))),
-        Verb::Good => Ok(office(line, Word::Good)),
-        Verb::Rows => Ok(office(line, Word::List(line.list))),
-        Verb::Ticks => Ok(office(line, Word::Ticks(line.second))),
-        Verb::Ask => {
-            let draw = Some(data(line.name));
-            Ok(Step::Play(Event::Office(line.first as usize, Word::Ask(line.second), draw)))
+    match line {
+        Line::Fleet { machines, judges } => Ok(Step::Fleet { machines, judges }),
+        Line::Wipe => Ok(Step::Play(Event::Wipe)),
+        Line::File { name, then } => Ok(file(name, then.unwrap_or(name))),
+        Line::List { name, further } => list(name, further, programs),
+        Line::Switch { machine } => Ok(at(machine, Act::Switch)),
+        Line::Start { machine, list } => Ok(at(machine, Act::Start(name(list)))),
+        Line::Load {
+            machine,
+            name: file,
+        } => Ok(at(machine, Act::Load(name(file)))),
+        Line::Put { machine, program } => {
+            Ok(at(machine, Act::Give(Command::Put(digest(program)))))
         }
-        Verb::Answer => Ok(Step::Answer(
-            line.first as usize,
-            line.second,
-            data(line.name),
-            line.list,
-            line.other,
-        )),
-        Verb::Fall => Ok(Step::Play(Event::Fall(line.first as usize))),
-        Verb::Net => Ok(Step::Play(Event::Net(line.first as usize, Word::Chip(line.second)))),
-        Verb::Has => Ok(Step::Has(data(line.name))),
+        Line::Run { machine, program } => Ok(at(machine, Act::Run(digest(program)))),
+        Line::Sign {
+            machine,
+            word,
+            name,
+        } => Ok(kept(machine, Act::Give(Command::Sign(data(word))), name)),
+        Line::Count { machine } => Ok(at(machine, Act::Give(Command::Count))),
+        Line::Read { machine } => Ok(at(machine, Act::Give(Command::Read))),
+        Line::Keep {
+            machine,
+            word,
+            name,
+        } => {
+            let target = target(programs).ok_or(Fault::TooMany)?;
+            Ok(kept(machine, Act::Keep(target, data(word)), name))
+        }
+        Line::Close {
+            machine,
+            word,
+            name,
+        } => {
+            let target = target(programs).ok_or(Fault::TooMany)?;
+            let act = Act::Give(Command::Close(target, data(word)));
+            Ok(kept(machine, act, name))
+        }
+        Line::Open { machine, name } => Ok(Step::Open {
+            machine: machine as usize,
+            name,
+        }),
+        Line::CutCount { machine, when } => Ok(at(machine, Act::CutCount(is_late(when)))),
+        Line::CutClose { machine } => Ok(at(machine, Act::CutClose)),
+        Line::Chip { judge, chip } => Ok(office(judge, Word::Chip(chip))),
+        Line::Good { judge } => Ok(office(judge, Word::Good)),
+        Line::Rows { judge, list } => Ok(office(judge, Word::List(list))),
+        Line::Ticks { judge, ticks } => Ok(office(judge, Word::Ticks(ticks))),
+        Line::Ask { judge, chip, word } => Ok(Step::Play(Event::Office(
+            judge as usize,
+            Word::Ask(chip),
+            Some(data(word)),
+        ))),
+        Line::Answer {
+            judge,
+            chip,
+            word,
+            list,
+            name,
+        } => Ok(Step::Answer {
+            judge: judge as usize,
+            chip,
+            data: data(word),
+            list,
+            name,
+        }),
+        Line::Fall { judge } => Ok(Step::Play(Event::Fall(judge as usize))),
+        Line::Net { judge, chip } => {
+            Ok(Step::Play(Event::Net(judge as usize, Word::Chip(chip))))
+        }
+        Line::Has { word } => Ok(Step::Has(data(word))),
     }
 }
 
-/// At the line's machine.
-fn at(line: Line, act: Act) -> Step
-    ensures { result ≡ at_of line act }
+fn at(machine: u32, act: Act) -> Step
+    ensures { result ≡ at_of machine act }
 {
-    Step::Play(Event::At(line.first as usize, act))
+    Step::Play(Event::At(machine as usize, act))
 }
 
 /// The same, where what comes of it is kept.
-fn kept(line: Line, act: Act) -> Step
-    ensures { result ≡ kept_of line act }
+fn kept(machine: u32, act: Act, name: Label) -> Step
+    ensures { result ≡ kept_of machine act name }
 {
-    Step::Keep(Event::At(line.first as usize, act), line.other)
+    Step::Keep(Event::At(machine as usize, act), name)
 }
 
-/// To the line's judge, by the office's line.
-fn office(line: Line, word: Word) -> Step
-    ensures { result ≡ office_of line word }
+/// To a judge, by the office's line.
+fn office(judge: u32, word: Word) -> Step
+    ensures { result ≡ office_of judge word }
 {
-    Step::Play(Event::Office(line.first as usize, word, None))
+    Step::Play(Event::Office(judge as usize, word, None))
+}
+
+/// Whether the counter is written before power is lost.
+fn is_late(when: When) -> bool
+    ensures { result ≡ is_after when }
+{
+    matches!(when, When::After)
 }
 
 /// A program under its own name, and what stands there once it was read.
@@ -101,75 +134,53 @@ fn file(label: Label, other: Label) -> Step
 fn target(programs: &[Label]) -> Option<Target>
     ensures { result ≡ target_of programs.now }
 {
-    if is_nowhere(programs) {
-        return Some(Target::Nowhere);
-    }
-    match row(programs) {
-        Some(row) => Some(Target::Row(row)),
-        None => None,
+    match programs {
+        [only] if *only == nowhere() => Some(Target::Nowhere),
+        _ => Some(Target::Row(row(programs)?)),
     }
 }
 
-fn is_nowhere(programs: &[Label]) -> bool
-    ensures { result ≡ only programs.now }
-{
-    if programs.len() != 1 {
-        return false;
-    }
-    programs[0].same(nowhere())
-}
-
+// A loop and not `try_fold`, as `names` has it: at a register, which brings its own invariant, that was not proved.
 fn row(programs: &[Label]) -> Option<Register>
     ensures { result ≡ row_from empty_register programs.now }
 {
     let mut row = Register::empty();
-    for i in 0..programs.len() {
-        match row.with(digest(programs[i])) {
-            Some(next) => row = next,
-            None => return None,
-        }
+    for program in programs {
+        row = row.with(digest(*program))?;
     }
     Some(row)
 }
 
-/// A start list of these programs, and of the line's other name if a further list follows.
-fn list(line: Line, programs: &[Label], further: bool) -> Result<Step, Fault>
-    ensures { result ≡ list_of line further programs.now }
+/// A start list of these programs, and of the name of a further list if one follows.
+fn list(name: Label, further: Option<Label>, programs: &[Label]) -> Result<Step, Fault>
+    ensures { result ≡ list_of name further programs.now }
 {
-    let Some(list) = names(programs, further) else {
-        return Err(Fault::TooMany);
-    };
-    if !further {
-        return Ok(written(line, list));
-    }
-    match with(list, line.other) {
-        Some(list) => Ok(written(line, list)),
-        None => Err(Fault::TooMany),
+    let list = names(programs, further.is_some()).ok_or(Fault::TooMany)?;
+    match further {
+        None => Ok(written(name, list)),
+        Some(label) => {
+            let list = with(list, label).ok_or(Fault::TooMany)?;
+            Ok(written(name, list))
+        }
     }
 }
 
-fn written(line: Line, list: StartList) -> Step
-    ensures { result ≡ written_of line list }
+fn written(label: Label, list: StartList) -> Step
+    ensures { result ≡ written_of label list }
 {
     let file = File::List(list);
-    Step::Play(Event::Write(name(line.name), file, file))
+    Step::Play(Event::Write(name(label), file, file))
 }
 
 fn names(programs: &[Label], further: bool) -> Option<StartList>
     ensures { result ≡ names_from (no_names further) programs.now }
 {
-    let mut list = StartList {
+    let none = StartList {
         names: [Name { bytes: [0; 16] }; 8],
         count: 0,
         further,
     };
-    for i in 0..programs.len() {
-        match with(list, programs[i]) {
-            Some(next) => list = next,
-            None => return None,
-        }
-    }
-    Some(list)
+    programs.iter().copied().try_fold(none, with)
 }
 
 /// One name more.
@@ -185,6 +196,6 @@ fn with(list: StartList, label: Label) -> Option<StartList>
     Some(StartList {
         names,
         count: count + 1,
-        further: list.further,
+        ..list
     })
 }

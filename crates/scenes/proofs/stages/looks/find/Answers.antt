@@ -1,14 +1,17 @@
-use Rattle.std.proofs.Common.{◌≡◌, true, false, Some, sym, ap, ◌∙◌, subst}
+use Rattle.std.proofs.Common.{sym, ap, ◌∙◌, rules, tests}
+use Rattle.std.specs.Option.{option_map}
+use Rattle.std.proofs.lemmas.Iterator.{YieldsList-from_slice}
+use Rattle.std.proofs.lemmas.Iterator.Search.{find_from_yields_List}
 use Rattle.script.specs.Labels.{same_label}
-use Rattle.script.proofs.Looks.{hit, miss, end}
-use Rattle.scenes.proofs.Folds.{copies}
+use Rattle.scenes.proofs.Folds.{latest_found}
 use Rattle.scenes.proofs.stages.looks.find.Goals as goal
 
-pub returns-then-same : goal.returns-then-same
-returns-then-same c = ap (λ k. Some k.answer) c.index-kept-i.is ∙ hit (copies c.args.name) _ c.loop-i.i c.index-kept-i.result c.loop-i-test.true c.loop-i.invariant (subst (λ k. same_label k.name c.args.name ≡ true) c.index-kept-i.is (sym c.if-same.ensures))
-
-pub loop-i-preserved : goal.loop-i-preserved
-loop-i-preserved c = miss (copies c.args.name) _ c.loop-i.i c.index-kept-i.result c.loop-i-test.true c.loop-i.invariant (subst (λ k. same_label k.name c.args.name ≡ false) c.index-kept-i.is (sym c.if-same.ensures))
+pub returns-in_err-latest : goal.returns-in_err-latest
+returns-in_err-latest g c =
+    let sought = find_from_yields_List (λ k. same_label k.name c.args.name) _ _ c.find.result c.find.ensures.ran (YieldsList-from_slice c.args.kept.now cc) (λ x b q k. search (rules, tests)) in
+    rw c.from_residual.ensures (ap (λ o. option_map (λ k. k.what) (option_map (λ y. y.now) o)) (sym c.in_err-latest.was) ∙ ap (option_map (λ k. k.what)) sought ∙ latest_found c.args.name c.args.kept.now)
 
 pub returns : goal.returns
-returns c = end (copies c.args.name) _ c.loop-i.i c.loop-i-test.false c.loop-i.invariant
+returns g c =
+    let sought = find_from_yields_List (λ k. same_label k.name c.args.name) _ _ c.find.result c.find.ensures.ran (YieldsList-from_slice c.args.kept.now cc) (λ x b q k. search (rules, tests)) in
+    ap (λ o. option_map (λ k. k.what) (option_map (λ y. y.now) o)) (sym c.in_ok-latest.was) ∙ ap (option_map (λ k. k.what)) sought ∙ latest_found c.args.name c.args.kept.now

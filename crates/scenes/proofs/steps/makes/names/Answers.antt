@@ -1,12 +1,10 @@
-use Rattle.std.proofs.Common.{Some, None}
-use Rattle.scenes.proofs.Folds.{next, all, lists}
+use Rattle.std.proofs.Common.{◌∙◌, rules, tests}
+use Rattle.std.proofs.lemmas.Iterator.{YieldsList-from_slice}
+use Rattle.std.proofs.lemmas.Iterator.Consumers.{YieldsList-from_copied}
+use Rattle.script.proofs.Tries.{try_fold_is}
+use Rattle.scenes.specs.Steps.{added_name, no_names}
+use Rattle.scenes.proofs.Folds.{lists}
 use Rattle.scenes.proofs.steps.makes.names.Goals as goal
 
-pub returns-in-None : goal.returns-in-None
-returns-in-None c = next lists c.loop-i.list _ c.loop-i.i _ None _ c.loop-i-test.true c.in-None.ensures c.loop-i.invariant
-
-pub loop-i-preserved : goal.loop-i-preserved
-loop-i-preserved c = next lists c.loop-i.list _ c.loop-i.i _ (Some c.in-Some.next) _ c.loop-i-test.true c.in-Some.ensures c.loop-i.invariant
-
 pub returns : goal.returns
-returns c = all lists c.loop-i.list _ c.loop-i.i _ c.loop-i-test.false c.loop-i.invariant
+returns c = try_fold_is _ _ _ added_name _ (λ s l o f k. search (rules, tests)) c.args.programs.now _ _ (no_names c.args.further) c.try_fold.result (YieldsList-from_copied (YieldsList-from_slice c.args.programs.now cc)) c.try_fold.ensures.ran ∙ lists (no_names c.args.further) c.args.programs.now

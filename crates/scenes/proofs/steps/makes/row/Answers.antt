@@ -1,13 +1,13 @@
 use Rattle.std.proofs.Common.{Some, None, ap, ◌∙◌}
 use Rattle.device.specs.Rows.{pushed}
-use Rattle.scenes.proofs.Folds.{next, all, rows}
+use Rattle.scenes.proofs.Folds.{rows_next, rows_all}
 use Rattle.scenes.proofs.steps.makes.row.Goals as goal
 
-pub returns-in-None : goal.returns-in-None
-returns-in-None c = next rows c.loop-i.row _ c.loop-i.i _ None _ c.loop-i-test.true (c.in-None.ensures ∙ ap (pushed c.loop-i.row) c.digest.ensures) c.loop-i.invariant
+pub returns-in_err-row : goal.returns-in_err-row
+returns-in_err-row c = rw c.from_residual.ensures (rows_next c.loop-program.row _ c.loop-program.program-index _ None _ c.loop-program-test.true (c.in_err-row.ensures ∙ ap (pushed c.loop-program.row) c.digest.ensures) c.loop-program.invariant)
 
-pub loop-i-preserved : goal.loop-i-preserved
-loop-i-preserved c = next rows c.loop-i.row _ c.loop-i.i _ (Some c.in-Some.next) _ c.loop-i-test.true (c.in-Some.ensures ∙ ap (pushed c.loop-i.row) c.digest.ensures) c.loop-i.invariant
+pub loop-program-preserved : goal.loop-program-preserved
+loop-program-preserved c = rows_next c.loop-program.row _ c.loop-program.program-index _ (Some c.in_ok-row.row) _ c.loop-program-test.true (c.in_ok-row.ensures ∙ ap (pushed c.loop-program.row) c.digest.ensures) c.loop-program.invariant
 
 pub returns : goal.returns
-returns c = all rows c.loop-i.row _ c.loop-i.i _ c.loop-i-test.false c.loop-i.invariant
+returns c = rows_all c.loop-program.row _ c.loop-program.program-index _ c.loop-program-test.false c.loop-program.invariant
