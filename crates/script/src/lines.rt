@@ -26,88 +26,88 @@ pub enum Line {
         further: Option<Label>,
     },
     Switch {
-        machine: u32,
+        machine: usize,
     },
     Start {
-        machine: u32,
+        machine: usize,
         list: Label,
     },
     Load {
-        machine: u32,
+        machine: usize,
         name: Label,
     },
     Put {
-        machine: u32,
+        machine: usize,
         program: Label,
     },
     Run {
-        machine: u32,
+        machine: usize,
         program: Label,
     },
     Sign {
-        machine: u32,
+        machine: usize,
         word: Label,
         name: Label,
     },
     Count {
-        machine: u32,
+        machine: usize,
     },
     Read {
-        machine: u32,
+        machine: usize,
     },
     Keep {
-        machine: u32,
+        machine: usize,
         word: Label,
         name: Label,
     },
     Close {
-        machine: u32,
+        machine: usize,
         word: Label,
         name: Label,
     },
     Open {
-        machine: u32,
+        machine: usize,
         name: Label,
     },
     CutCount {
-        machine: u32,
+        machine: usize,
         when: When,
     },
     CutClose {
-        machine: u32,
+        machine: usize,
     },
     Chip {
-        judge: u32,
+        judge: usize,
         chip: u32,
     },
     Good {
-        judge: u32,
+        judge: usize,
     },
     Rows {
-        judge: u32,
+        judge: usize,
         list: u16,
     },
     Ticks {
-        judge: u32,
+        judge: usize,
         ticks: u32,
     },
     Ask {
-        judge: u32,
+        judge: usize,
         chip: u32,
         word: Label,
     },
     Answer {
-        judge: u32,
+        judge: usize,
         chip: u32,
         word: Label,
         list: u16,
         name: Label,
     },
     Fall {
-        judge: u32,
+        judge: usize,
     },
     Net {
-        judge: u32,
+        judge: usize,
         chip: u32,
     },
     Has {
@@ -125,6 +125,8 @@ pub enum When {
 /// What stands at one place of a line, after its verb.
 #[derive(Clone, Copy, Debug, PartialEq, Eq)]
 pub enum Part {
+    /// Of a machine or a judge: any number.
+    Place,
     /// Numbers up to this.
     First(u32),
     Second(u32),

@@ -2,9 +2,7 @@
 #![tactic(auto)]
 
 mod plays;
-mod scripts;
 mod tells;
-mod words;
 
 use anyhow::anyhow;
 use plays::play;

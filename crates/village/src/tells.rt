@@ -1,24 +1,22 @@
 //! What came of a line, in words.
 
-use crate::words::Plain;
 use device::chips::Answer;
-use device::refusals::Refusal;
-use device::registers::Register;
-use fleet::fleets::Report;
+use device::digests::Digest;
+use fleet::fleets::{Fault, Report};
+use scenes::stages::Outcome;
 use std::fmt;
-use verifier::judges::{Flags, Said};
+use std::str::from_utf8;
+use verifier::judges::{Acceptance, Said};
 
+/// An outcome, as a reader of the script is told of it.
 #[derive(Clone, Copy)]
-pub enum Outcome {
-    Reported(Report),
-    /// Whether outsiders have it.
-    Has(bool),
-}
+pub struct Told(pub Outcome);
 
-impl fmt::Display for Outcome {
+impl fmt::Display for Told {
     fn fmt<W: fmt::Write>(&self, f: &mut fmt::Formatter<W>) -> fmt::Result {
-        match self {
-            Outcome::Reported(report) => tell(f, *report),
+        match self.0 {
+            Outcome::Reported(Ok(report)) => tell(f, report),
+            Outcome::Reported(Err(why)) => tell_fault(f, why),
             Outcome::Has(true) => write!(f, "outsiders have it"),
             Outcome::Has(false) => write!(f, "outsiders do not have it"),
         }
@@ -28,19 +26,28 @@ impl fmt::Display for Outcome {
 fn tell<W: fmt::Write>(f: &mut fmt::Formatter<W>, report: Report) -> fmt::Result {
     match report {
         Report::Done => write!(f, "done"),
-        Report::Refused(why) => tell_refusal(f, why),
-        Report::Unwilling => write!(f, "unwilling"),
-        Report::Nobody => write!(f, "nobody"),
-        Report::NoMemory => write!(f, "no memory"),
         Report::Answered(answer) => tell_answer(f, answer),
         Report::Told(said) => tell_said(f, said),
-        Report::Accepted(list, row, flags, ran) => tell_accepted(f, list, row, flags, ran),
+        Report::Accepted(acceptance, ran) => {
+            tell_acceptance(f, acceptance)?;
+            match ran {
+                Some(ran) => tell_row(f, ran.as_slice()),
+                None => write!(f, " unknown"),
+            }
+        }
     }
 }
 
-fn tell_refusal<W: fmt::Write>(f: &mut fmt::Formatter<W>, why: Refusal) -> fmt::Result {
-    let number = why.number();
-    write!(f, "refused {number}")
+fn tell_fault<W: fmt::Write>(f: &mut fmt::Formatter<W>, why: Fault) -> fmt::Result {
+    match why {
+        Fault::Refused(why) => {
+            let number = u8::from(why);
+            write!(f, "refused {number}")
+        }
+        Fault::Unwilling => write!(f, "unwilling"),
+        Fault::Nobody => write!(f, "nobody"),
+        Fault::NoMemory => write!(f, "no memory"),
+    }
 }
 
 fn tell_answer<W: fmt::Write>(f: &mut fmt::Formatter<W>, answer: Answer) -> fmt::Result {
@@ -58,9 +65,8 @@ fn tell_answer<W: fmt::Write>(f: &mut fmt::Formatter<W>, answer: Answer) -> fmt:
         }
         Answer::Now(counter, row) => {
             write!(f, "counter {counter} row")?;
-            tell_row(f, row)
+            tell_row(f, row.as_slice())
         }
-        Answer::Refused(why) => tell_refusal(f, why),
     }
 }
 
@@ -68,55 +74,64 @@ fn tell_said<W: fmt::Write>(f: &mut fmt::Formatter<W>, said: Said) -> fmt::Resul
     match said {
         Said::Done => write!(f, "done"),
         Said::Asks(chip, _) => write!(f, "asks {chip}"),
-        Said::Accepted(list, row, flags) => tell_accepted(f, list, row, flags, None),
-        Said::Refused(why) => tell_refusal(f, why),
-        Said::NoMemory => write!(f, "no memory"),
+        Said::Accepted(acceptance) => {
+            tell_acceptance(f, acceptance)?;
+            write!(f, " unknown")
+        }
     }
 }
 
-fn tell_accepted<W: fmt::Write>(
-    f: &mut fmt::Formatter<W>,
-    list: u16,
-    row: Register,
-    flags: Flags,
-    ran: Option<Register>,
-) -> fmt::Result {
+/// All but what really ran.
+fn tell_acceptance<W: fmt::Write>(f: &mut fmt::Formatter<W>, accepted: Acceptance) -> fmt::Result {
+    let list = accepted.list;
     write!(f, "accepted list {list}: row")?;
-    tell_row(f, row)?;
+    tell_row(f, accepted.row.as_slice())?;
     write!(f, "; unknown to the office:")?;
-    tell_unknown(f, row, flags)?;
-    write!(f, "; ran")?;
-    match ran {
-        Some(ran) => tell_row(f, ran),
-        None => write!(f, " unknown"),
-    }
+    tell_unknown(f, accepted)?;
+    write!(f, "; ran")
 }
 
 /// A space before each program.
-fn tell_row<W: fmt::Write>(f: &mut fmt::Formatter<W>, row: Register) -> fmt::Result {
-    let digests = row.digests();
-    for i in 0..row.len() {
-        let plain = Plain(digests[i].bytes);
+fn tell_row<W: fmt::Write>(f: &mut fmt::Formatter<W>, row: &[Digest]) -> fmt::Result {
+    for program in row {
+        let plain = Plain(program.bytes);
         write!(f, " {plain}")?;
     }
     Ok(())
 }
 
 /// Those of the row that the flags do not know.
-fn tell_unknown<W: fmt::Write>(
-    f: &mut fmt::Formatter<W>,
-    row: Register,
-    flags: Flags,
-) -> fmt::Result {
+fn tell_unknown<W: fmt::Write>(f: &mut fmt::Formatter<W>, accepted: Acceptance) -> fmt::Result {
+    let known = accepted.flags.known;
     let mut none = true;
-    for i in 0..16 {
-        if let Some(digest) = row.digest(i)
-            && !flags.known[i]
-        {
+    for (program, known) in accepted.row.as_slice().iter().zip(&known) {
+        if !*known {
             none = false;
-            let plain = Plain(digest.bytes);
+            let plain = Plain(program.bytes);
             write!(f, " {plain}")?;
         }
     }
     if none { write!(f, " none") } else { Ok(()) }
+}
+
+/// Bytes as a script writes them, without the padding.
+#[derive(Clone, Copy)]
+struct Plain([u8; 32]);
+
+impl fmt::Display for Plain {
+    fn fmt<W: fmt::Write>(&self, f: &mut fmt::Formatter<W>) -> fmt::Result {
+        let bytes = self.0;
+        match from_utf8(unpadded(&bytes)) {
+            Ok(word) => write!(f, "{word}"),
+            Err(_) => write!(f, "?"),
+        }
+    }
+}
+
+/// Up to the first zero.
+fn unpadded(bytes: &[u8]) -> &[u8] {
+    match bytes.iter().position(|byte| *byte == 0) {
+        Some(n) => &bytes[..n],
+        None => bytes,
+    }
 }

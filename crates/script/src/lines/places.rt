@@ -1,7 +1,7 @@
 //! What stood at the places of a line, word after word.
 
 ghost use Rattle.std.specs.Prelude.{◌≡◌};
-ghost use Rattle.script.specs.Lines.{blank, when_of, put_of, ended_of, filled, line_of};
+ghost use Rattle.script.specs.Lines.{blank, when_of, put_of, ended_of, filled, line_of, put_in, comes_in};
 
 use crate::faults::Fault;
 use crate::labels::Label;
@@ -10,11 +10,21 @@ use crate::numbers::number;
 use crate::verbs::{Key, Verb};
 use std::str::FromStr;
 
+/// The order in which the parts of a line are read, so which fault is told where several words are bad.
+#[derive(Clone, Copy)]
+pub(crate) enum Turn {
+    /// The words that have a meaning of their own.
+    Words,
+    Names,
+    Others,
+}
+
 /// The words that were read so far.
 // Zeros and not Options where none was read: a verb's line takes only places that its parts have filled, so a `None`
 // would be an arm that never comes.
 #[derive(Clone, Copy)]
 pub(crate) struct Places {
+    place: usize,
     first: u32,
     second: u32,
     list: u16,
@@ -29,6 +39,7 @@ impl Places {
         ensures { result ≡ blank }
     {
         Places {
+            place: 0,
             first: 0,
             second: 0,
             list: 0,
@@ -38,16 +49,16 @@ impl Places {
         }
     }
 
-    /// Word after word.
-    pub(crate) fn fill(self, parts: &[Part], words: &[&str]) -> Result<Places, Fault>
-        ensures { result ≡ filled self parts.now words.now }
+    /// Word after word, where it is the part's turn.
+    pub(crate) fn fill(self, turn: Turn, parts: &[Part], words: &[&str]) -> Result<Places, Fault>
+        ensures { result ≡ filled turn self parts.now words.now }
     {
         let mut places = self;
         // Not a zip, which would end without a word where one is missing.
         let mut words = words.iter();
         for part in parts {
             let word = words.next().ok_or(Fault::Shape)?;
-            places = places.put(*part, word)?;
+            places = places.put_in(turn, *part, word)?;
         }
         Ok(places)
     }
@@ -65,22 +76,36 @@ impl Places {
         }
     }
 
+    fn put_in(self, turn: Turn, part: Part, word: &str) -> Result<Places, Fault>
+        ensures { result ≡ put_in turn self part word.now }
+    {
+        if part.comes_in(turn) {
+            self.put(part, word)
+        } else {
+            Ok(self)
+        }
+    }
+
     /// With the word that stands at this part.
     fn put(self, part: Part, word: &str) -> Result<Places, Fault>
         ensures { result ≡ put_of self part word.now }
     {
         match part {
+            Part::Place => Ok(Places {
+                place: number(word, usize::MAX)?,
+                ..self
+            }),
+            // A number is within its limit, so no cast loses anything.
             Part::First(limit) => Ok(Places {
-                first: number(word, limit)?,
+                first: number(word, limit as usize)? as u32,
                 ..self
             }),
             Part::Second(limit) => Ok(Places {
-                second: number(word, limit)?,
+                second: number(word, limit as usize)? as u32,
                 ..self
             }),
-            // The number is within its limit, so the cast loses nothing.
             Part::List => Ok(Places {
-                list: number(word, u32::from(u16::MAX))? as u16,
+                list: number(word, usize::from(u16::MAX))? as u16,
                 ..self
             }),
             Part::Name => Ok(Places {
@@ -105,6 +130,7 @@ impl Places {
         ensures { result ≡ line_of verb self }
     {
         let Places {
+            place,
             first,
             second,
             list,
@@ -131,77 +157,89 @@ impl Places {
                 name,
                 further: Some(other),
             },
-            Verb::Switch => Line::Switch { machine: first },
+            Verb::Switch => Line::Switch { machine: place },
             Verb::Start => Line::Start {
-                machine: first,
+                machine: place,
                 list: name,
             },
             Verb::Load => Line::Load {
-                machine: first,
+                machine: place,
                 name,
             },
             Verb::Put => Line::Put {
-                machine: first,
+                machine: place,
                 program: name,
             },
             Verb::Run => Line::Run {
-                machine: first,
+                machine: place,
                 program: name,
             },
             Verb::Sign => Line::Sign {
-                machine: first,
+                machine: place,
                 word: name,
                 name: other,
             },
-            Verb::Count => Line::Count { machine: first },
-            Verb::Read => Line::Read { machine: first },
+            Verb::Count => Line::Count { machine: place },
+            Verb::Read => Line::Read { machine: place },
             Verb::Keep => Line::Keep {
-                machine: first,
+                machine: place,
                 word: name,
                 name: other,
             },
             Verb::Close => Line::Close {
-                machine: first,
+                machine: place,
                 word: name,
                 name: other,
             },
             Verb::Open => Line::Open {
-                machine: first,
-                name,
+                machine: place,
+                name: other,
             },
             Verb::CutCount => Line::CutCount {
-                machine: first,
+                machine: place,
                 when,
             },
-            Verb::CutClose => Line::CutClose { machine: first },
+            Verb::CutClose => Line::CutClose { machine: place },
             Verb::Chip => Line::Chip {
-                judge: first,
+                judge: place,
                 chip: second,
             },
-            Verb::Good => Line::Good { judge: first },
-            Verb::Rows => Line::Rows { judge: first, list },
+            Verb::Good => Line::Good { judge: place },
+            Verb::Rows => Line::Rows { judge: place, list },
             Verb::Ticks => Line::Ticks {
-                judge: first,
+                judge: place,
                 ticks: second,
             },
             Verb::Ask => Line::Ask {
-                judge: first,
+                judge: place,
                 chip: second,
                 word: name,
             },
             Verb::Answer => Line::Answer {
-                judge: first,
+                judge: place,
                 chip: second,
                 word: name,
                 list,
                 name: other,
             },
-            Verb::Fall => Line::Fall { judge: first },
+            Verb::Fall => Line::Fall { judge: place },
             Verb::Net => Line::Net {
-                judge: first,
+                judge: place,
                 chip: second,
             },
             Verb::Has => Line::Has { word: name },
+        }
+    }
+}
+
+impl Part {
+    fn comes_in(self, turn: Turn) -> bool
+        ensures { result ≡ comes_in turn self }
+    {
+        match self {
+            Part::Word(_) | Part::When => matches!(turn, Turn::Words),
+            Part::Name => matches!(turn, Turn::Names),
+            _ => matches!(turn, Turn::Others),
         }
     }
 }
