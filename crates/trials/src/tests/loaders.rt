@@ -52,13 +52,7 @@ fn runs(machine: Machine, ns: &[u8]) -> bool {
 }
 
 /// Starts from a disk with this under name 10, which has to be refused by 7 after just these programs.
-fn refused(
-    rt: &impl Abort,
-    heap: Global,
-    file: File,
-    ns: &[u8],
-    note: &str,
-) -> Result<(), Fail> {
+fn refused(rt: &impl Abort, heap: Global, file: File, ns: &[u8], note: &str) -> Result<(), Fail> {
     let mut disk = disk(heap, file)?;
     let (machine, outcome) = start(&mut disk, 10);
     assert_eq!(rt; outcome, Err(7), "{note}");
@@ -124,12 +118,24 @@ fn count_of_9_is_refused_by_7(rt: HostRuntime) -> Result<(), Fail> {
 fn missing_program_is_refused_by_7(rt: HostRuntime) -> Result<(), Fail> {
     refused(&rt, rt.alloc(), list(1, 12, 2, false), &[FIRST], "missing")?;
     let names_a_list = list(1, 10, 2, false);
-    refused(&rt, rt.alloc(), names_a_list, &[FIRST], "a list is no program")
+    refused(
+        &rt,
+        rt.alloc(),
+        names_a_list,
+        &[FIRST],
+        "a list is no program",
+    )
 }
 
 #[test]
 fn missing_further_list_leaves_what_was_loaded(rt: HostRuntime) -> Result<(), Fail> {
-    refused(&rt, rt.alloc(), list(1, 12, 2, true), &[FIRST, 1], "missing")
+    refused(
+        &rt,
+        rt.alloc(),
+        list(1, 12, 2, true),
+        &[FIRST, 1],
+        "missing",
+    )
 }
 
 #[test]
