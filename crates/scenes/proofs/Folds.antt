@@ -9,6 +9,7 @@ use Rattle.boot.specs.declared.disks.StartList.{StartList}
 use Rattle.script.specs.declared.labels.Label.{Label}
 use Rattle.script.specs.Labels.{same_label}
 use Rattle.script.proofs.Tries.{and_on, tried}
+use Rattle.device.specs.declared.chips.Answer.{Answer}
 use Rattle.scenes.specs.declared.stages.Kept.{Kept}
 use Rattle.scenes.specs.Names.{digest_of}
 use Rattle.scenes.specs.Steps.{go_on, row_from, added_name, names_from}
@@ -40,11 +41,11 @@ lists s (l ∷ ls) = each (added_name s l) _ _ (λ q. lists q ls)
 
 -- ---- copies
 
-pub latest_found : {A : Type 0} (n : Label) (ks : List (Kept A)) → option_map (λ k. k.what) (find (λ (k : Kept A). same_label k.name n) ks) ≡ latest n ks
+pub latest_found : (n : Label) (ks : List Kept) → option_map (λ k. k.answer) (find (λ k. same_label k.name n) ks) ≡ latest n ks
 unfolding latest
-latest_found {A = A} n [] = refl
-latest_found {A = A} n (k ∷ ks) = chosen (same_label k.name n) _ _ (latest_found n ks)
+latest_found n [] = refl
+latest_found n (k ∷ ks) = chosen (same_label k.name n) _ _ (latest_found n ks)
   where
-    chosen : (b : Bool) (o : Option (Kept A)) (p : Option A) → option_map (λ k. k.what) o ≡ p → option_map (λ k. k.what) (cond b (Some k) o) ≡ cond b (Some k.what) p
+    chosen : (b : Bool) (o : Option Kept) (p : Option Answer) → option_map (λ k. k.answer) o ≡ p → option_map (λ k. k.answer) (cond b (Some k) o) ≡ cond b (Some k.answer) p
     chosen true o p h = refl
     chosen false o p h = h

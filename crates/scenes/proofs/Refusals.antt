@@ -9,7 +9,7 @@ use Rattle.scenes.specs.declared.stages.Outcome.{Outcome}
 use Rattle.scenes.specs.declared.steps.Step.{Step}
 use Rattle.scenes.specs.declared.steps.Step.TheVariants as step
 use Rattle.scenes.specs.Kept.{Scene}
-use Rattle.scenes.specs.Scenes.{latest, opened_by, answered_by, taken, Refuses}
+use Rattle.scenes.specs.Scenes.{latest, thing_in, signature_in, opened_by, answered_by, taken, Refuses}
 
 opens : (f : Bool) (s : Scene) (i : ℕ) (y : Option Thing) → Refuses s (opened_by f s i y).0 (opened_by f s i y).1
 opens f s i None = refl
@@ -24,8 +24,8 @@ refuses_at m f s (step.Fleet a b) ds = refl
 refuses_at m f s (step.Play e) ds = tt
 refuses_at true f s (step.Keep e n) ds = tt
 refuses_at false f s (step.Keep e n) ds = refl
-refuses_at m f s (step.Open i n) ds = opens f s i (latest n s.things)
-refuses_at m f s (step.Answer j a d l n) ds = answers f s j a d l (latest n s.signatures)
+refuses_at m f s (step.Open i n) ds = opens f s i (thing_in (latest n s.kept))
+refuses_at m f s (step.Answer j a d l n) ds = answers f s j a d l (signature_in (latest n s.kept))
 refuses_at m f s (step.Has d) ds = tt
 
 pub refuses : (m f : Bool) (s : Scene) (x : Step) (ds : List Digest) (t : Scene) (r : Result Outcome Fault) → (t, r) ≡ taken m f s x ds → Refuses s t r

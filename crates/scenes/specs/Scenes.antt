@@ -1,5 +1,6 @@
 -- What each step does to a stage, and what comes of it.
 use Rattle.std.specs.Prelude.{◌≡◌, ℕ, Bool, true, cond, List, [], ◌∷◌, Some, None, Ok, Err, Option, Result}
+use Rattle.device.specs.declared.chips.Answer.{Answer}
 use Rattle.device.specs.declared.chips.Answer.TheVariants as answer
 use Rattle.device.specs.declared.chips.Command.TheVariants as command
 use Rattle.device.specs.declared.chips.Signature.{Signature}
@@ -33,31 +34,52 @@ use Rattle.scenes.specs.Names.{first_of}
 -- a new fleet, and nothing kept
 pub record Opens (bad : List Digest) (machines judges : ℕ) (s : Scene) : Type 0 where
   pub begins : Begins first_of bad machines judges s.fleet
-  pub no_signatures : s.signatures ≡ []
-  pub no_things : s.things ≡ []
+  pub empty : s.kept ≡ []
 
 -- ---- copies
 
--- the latest under this name; a signature and a thing of one name do not hide each other
-unfoldable pub latest : {A : Type 0} → Label → List (Kept A) → Option A
+-- the latest under this name
+unfoldable pub latest : Label → List Kept → Option Answer
 latest n [] = None
-latest n (k ∷ ks) = cond (same_label k.name n) (Some k.what) (latest n ks)
+latest n (k ∷ ks) = cond (same_label k.name n) (Some k.answer) (latest n ks)
+
+abbrev pub thing_in : Option Answer → Option Thing
+thing_in None = None
+thing_in (Some answer.Done) = None
+thing_in (Some (answer.Signed g)) = None
+thing_in (Some (answer.Counter n)) = None
+thing_in (Some (answer.Closed y)) = Some y
+thing_in (Some (answer.Opened d)) = None
+thing_in (Some (answer.Now n r)) = None
+
+abbrev pub signature_in : Option Answer → Option Signature
+signature_in None = None
+signature_in (Some answer.Done) = None
+signature_in (Some (answer.Signed g)) = Some g
+signature_in (Some (answer.Counter n)) = None
+signature_in (Some (answer.Closed y)) = None
+signature_in (Some (answer.Opened d)) = None
+signature_in (Some (answer.Now n r)) = None
+
+-- what is kept of a report: a signature or a thing
+abbrev pub copy_in : Result Report FleetFault → Option Answer
+copy_in (Ok report.Done) = None
+copy_in (Ok (report.Answered answer.Done)) = None
+copy_in (Ok (report.Answered (answer.Signed g))) = Some (answer.Signed g)
+copy_in (Ok (report.Answered (answer.Counter n))) = None
+copy_in (Ok (report.Answered (answer.Closed y))) = Some (answer.Closed y)
+copy_in (Ok (report.Answered (answer.Opened d))) = None
+copy_in (Ok (report.Answered (answer.Now n r))) = None
+copy_in (Ok (report.Told x)) = None
+copy_in (Ok (report.Accepted x o)) = None
+copy_in (Err f) = None
+
+abbrev pub with_copy : Label → Option Answer → List Kept → List Kept
+with_copy n None ks = ks
+with_copy n (Some a) ks = record { name = n; answer = a } ∷ ks
 
 abbrev pub with_fleet : Sight → Scene → Scene
-with_fleet x s = record { fleet = x; signatures = s.signatures; things = s.things }
-
--- with a copy of what was reported: of a signature or a thing
-abbrev pub with_copy : Label → Result Report FleetFault → Scene → Scene
-with_copy n (Ok report.Done) s = s
-with_copy n (Ok (report.Answered answer.Done)) s = s
-with_copy n (Ok (report.Answered (answer.Signed g))) s = record { fleet = s.fleet; signatures = record { name = n; what = g } ∷ s.signatures; things = s.things }
-with_copy n (Ok (report.Answered (answer.Counter x))) s = s
-with_copy n (Ok (report.Answered (answer.Closed y))) s = record { fleet = s.fleet; signatures = s.signatures; things = record { name = n; what = y } ∷ s.things }
-with_copy n (Ok (report.Answered (answer.Opened d))) s = s
-with_copy n (Ok (report.Answered (answer.Now x r))) s = s
-with_copy n (Ok (report.Told x)) s = s
-with_copy n (Ok (report.Accepted x o)) s = s
-with_copy n (Err f) s = s
+with_fleet x s = record { fleet = x; kept = s.kept }
 
 -- ---- steps
 
@@ -77,7 +99,7 @@ reported f s e ds = (with_fleet (played f s.fleet e ds).0 s, Ok (outcome.Reporte
 
 -- the same with a copy of it
 abbrev pub copied : Label → Scene → Sight × Result Report FleetFault → Scene × Result Outcome Fault
-copied n s q = (with_copy n q.1 (with_fleet q.0 s), Ok (outcome.Reported q.1))
+copied n s q = (record { fleet = q.0; kept = with_copy n (copy_in q.1) s.kept }, Ok (outcome.Reported q.1))
 
 -- m: whether memory was found for the copy
 abbrev pub kept_by : Bool → Bool → Scene → Event → Label → Scene × Result Outcome Fault
@@ -96,8 +118,8 @@ abbrev pub taken : Bool → Bool → Scene → Step → List Digest → Scene ×
 taken m f s (step.Fleet x y) ds = (s, Err fault.Shape)
 taken m f s (step.Play e) ds = reported f s e ds
 taken m f s (step.Keep e n) ds = kept_by m f s e n
-taken m f s (step.Open i n) ds = opened_by f s i (latest n s.things)
-taken m f s (step.Answer j a d l n) ds = answered_by f s j a d l (latest n s.signatures)
+taken m f s (step.Open i n) ds = opened_by f s i (thing_in (latest n s.kept))
+taken m f s (step.Answer j a d l n) ds = answered_by f s j a d l (signature_in (latest n s.kept))
 taken m f s (step.Has d) ds = (s, Ok (outcome.Has (some (same_data d) s.fleet.heard)))
 
 -- a refused step changes nothing

@@ -133,12 +133,3 @@ step_of (line.Answer j a l n k) ps = Ok (Answer j a (data_of l) n k)
 step_of (line.Fall j) ps = Ok (Play (event.Fall j))
 step_of (line.Net j a) ps = Ok (Play (event.Net j (word.Chip a)))
 step_of (line.Has l) ps = Ok (Has (data_of l))
-
--- why a step is not played while there is no fleet: nothing is kept without one
-abbrev pub missing_for : Step → Fault
-missing_for (Fleet m j) = NoFleet
-missing_for (Play e) = NoFleet
-missing_for (Keep e n) = NoFleet
-missing_for (Open i n) = NotKept
-missing_for (Answer j a d l n) = NotKept
-missing_for (Has d) = NoFleet

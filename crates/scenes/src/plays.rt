@@ -32,7 +32,7 @@ pub fn play_line(stage: &mut Option<Stage>, heap: Global, line: &str) -> Result<
         ),
         step => match stage {
             Some(stage) => stage.take(heap, step, digests.as_slice()),
-            None => Err(step.missing()),
+            None => Err(Fault::NoFleet),
         },
     }
 }

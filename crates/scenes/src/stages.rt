@@ -3,7 +3,7 @@
 pub mod looks;
 pub mod takes;
 
-use device::chips::{Signature, Thing};
+use device::chips::Answer;
 use fleet::fleets::{Fault, Fleet, Report};
 use script::labels::Label;
 use std::marker::Model;
@@ -11,9 +11,8 @@ use std::marker::Model;
 #[derive(Drop)]
 pub struct Stage {
     fleet: Fleet,
-    /// The latest first, here and below.
-    signatures: Vec<Kept<Signature>>,
-    things: Vec<Kept<Thing>>,
+    /// The latest first.
+    kept: Vec<Kept>,
 }
 
 /// Contracts see a stage without its memory.
@@ -23,14 +22,14 @@ impl Model for Stage {
 
     ghost Value = { Scene };
 
-    ghost view = { λ s. record { fleet = s.fleet; signatures = vec_items s.signatures; things = vec_items s.things } };
+    ghost view = { λ s. record { fleet = s.fleet; kept = vec_items s.kept } };
 }
 
 /// A signature or a thing, as the chip answered it.
 #[derive(Clone, Copy)]
-pub struct Kept<T> {
+pub struct Kept {
     name: Label,
-    what: T,
+    answer: Answer,
 }
 
 /// What came of a line.

@@ -1,13 +1,9 @@
 //! What a line asks for.
 
-ghost use Rattle.std.specs.Prelude.{◌≡◌};
-ghost use Rattle.scenes.specs.Steps.{missing_for};
-
 pub mod makes;
 
 use device::digests::Data;
 use fleet::fleets::Event;
-use script::faults::Fault;
 use script::labels::Label;
 
 #[derive(Clone, Copy)]
@@ -36,16 +32,4 @@ pub enum Step {
     },
     /// Whether outsiders have it.
     Has(Data),
-}
-
-impl Step {
-    /// What is missing for this step while there is no fleet: nothing is kept without one.
-    pub fn missing(self) -> Fault
-        ensures { result ≡ missing_for self }
-    {
-        match self {
-            Step::Open { .. } | Step::Answer { .. } => Fault::NotKept,
-            _ => Fault::NoFleet,
-        }
-    }
 }

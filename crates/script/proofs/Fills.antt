@@ -6,15 +6,14 @@ use Rattle.std.specs.Slice.Iter.{iter_rest, iter_steps}
 use Rattle.script.specs.declared.faults.Fault.{Fault}
 use Rattle.script.specs.declared.faults.Fault.TheVariants.{Unknown, Shape, TooLong, NoNumber, TooMany, NoFleet, NotKept, NoMemory}
 use Rattle.script.specs.declared.lines.places.Places.{Places}
-use Rattle.script.specs.declared.lines.places.Turn.{Turn}
 use Rattle.script.specs.declared.lines.Part.{Part}
 use Rattle.script.specs.declared.labels.Label.{Label}
 use Rattle.script.specs.Labels.{label_of, labels_of, met}
 use Rattle.script.specs.Labels as labels
-use Rattle.script.specs.Numbers.{next_of, go_on, digits_of, digits_in}
+use Rattle.script.specs.Numbers.{next_of, go_on, digits_of, number_of}
 use Rattle.script.proofs.Tries.{and_on, tried}
 use Rattle.script.specs.Forms.{Words}
-use Rattle.script.specs.Lines.{then_on, put_in, filled, all_names}
+use Rattle.script.specs.Lines.{then_on, put_of, filled}
 
 digits_tried : (limit n : ℕ) (bs : List ℕ) → ok_or (tried (next_of limit) n bs) NoNumber ≡ digits_of limit n bs
 unfolding digits_of
@@ -26,7 +25,7 @@ digits_tried limit n (b ∷ bs) = each (next_of limit n b) (λ m. digits_tried l
     each (Some m) more = more m
 
 -- what the digits come to is the number, and no more than the limit
-pub number_is : (limit : ℕ) (bs : List ℕ) (o : Option ℕ) (r : Result ℕ Fault) → false ≡ eqb (length bs) 0 → o ≡ tried (next_of limit) 0 bs → r ≡ ok_or o NoNumber → r ≡ digits_in limit bs
+pub number_is : (limit : ℕ) (bs : List ℕ) (o : Option ℕ) (r : Result ℕ Fault) → false ≡ eqb (length bs) 0 → o ≡ tried (next_of limit) 0 bs → r ≡ ok_or o NoNumber → r ≡ number_of limit bs
 number_is limit bs o r e h k = k ∙ ap (λ q. ok_or q NoNumber) h ∙ digits_tried limit 0 bs ∙ ap (λ b. cond b (Err NoNumber) (digits_of limit 0 bs)) e
 
 next_within : (limit n b m : ℕ) → Some m ≡ next_of limit n b → m ≤ limit
@@ -44,17 +43,17 @@ pub number_within : (limit : ℕ) (bs : List ℕ) (o : Option ℕ) (r : Result �
 number_within limit bs None r h k = rw k tt
 number_within limit bs (Some m) r h k = rw k (tried_within limit 0 bs m (omega arith) h)
 
-filled_here : (t : Turn) (p : Places) (q : Part) (qs : List Part) (w : Bor (List ℕ)) (ws : Words) → filled t p (q ∷ qs) (w ∷ ws) ≡ then_on (put_in t p q w.now) (λ r. filled t r qs ws)
+filled_here : (p : Places) (q : Part) (qs : List Part) (w : Bor (List ℕ)) (ws : Words) → filled p (q ∷ qs) (w ∷ ws) ≡ then_on (put_of p q w.now) (λ r. filled r qs ws)
 unfolding filled
-filled_here t p q qs w ws = refl
+filled_here p q qs w ws = refl
 
-filled_short : (t : Turn) (p : Places) (q : Part) (qs : List Part) → filled t p (q ∷ qs) [] ≡ Err Shape
+filled_short : (p : Places) (q : Part) (qs : List Part) → filled p (q ∷ qs) [] ≡ Err Shape
 unfolding filled
-filled_short t p q qs = refl
+filled_short p q qs = refl
 
-filled_nil : (t : Turn) (p : Places) (ws : Words) → filled t p [] ws ≡ Ok p
+filled_nil : (p : Places) (ws : Words) → filled p [] ws ≡ Ok p
 unfolding filled
-filled_nil t p ws = refl
+filled_nil p ws = refl
 
 -- why a missing word is refused
 pub why_is : {A : Type 0} (o : Option A) (why : Fault) → o ≡ None → Err why ≡ ok_or o Shape → why ≡ Shape
@@ -68,15 +67,15 @@ pub next_some : (s t : Iter (Bor (List ℕ))) (o : Option (Bor (Bor (List ℕ)))
 next_some s t o w e h = let k = subst (λ p. iter_steps s p t) e h in k
 
 -- the next part with the next word, no word where a part is left, and no part
-pub filled_next : (t : Turn) (p : Places) (qs : List Part) (i : ℕ) (q : Part) (w : Bor (List ℕ)) (ws vs : Words) (r z : Result Places Fault) → i < length qs → ws ≡ w ∷ vs → r ≡ put_in t p (get_or qs i q) w.now → filled t p (drop i qs) ws ≡ z → then_on r (λ m. filled t m (drop (i + 1) qs) vs) ≡ z
-filled_next t p qs i q w ws vs r z l s e inv = ap (λ k. then_on k (λ m. filled t m (drop (i + 1) qs) vs)) e ∙ sym (filled_here t p (get_or qs i q) (drop (i + 1) qs) w vs) ∙ sym (at_drop_more (λ ys. filled t p ys (w ∷ vs)) qs i q l) ∙ sym (ap (filled t p (drop i qs)) s) ∙ inv
+pub filled_next : (p : Places) (qs : List Part) (i : ℕ) (q : Part) (w : Bor (List ℕ)) (ws vs : Words) (r t : Result Places Fault) → i < length qs → ws ≡ w ∷ vs → r ≡ put_of p (get_or qs i q) w.now → filled p (drop i qs) ws ≡ t → then_on r (λ m. filled m (drop (i + 1) qs) vs) ≡ t
+filled_next p qs i q w ws vs r t l s e inv = ap (λ k. then_on k (λ m. filled m (drop (i + 1) qs) vs)) e ∙ sym (filled_here p (get_or qs i q) (drop (i + 1) qs) w vs) ∙ sym (at_drop_more (λ ys. filled p ys (w ∷ vs)) qs i q l) ∙ sym (ap (filled p (drop i qs)) s) ∙ inv
 
-pub filled_out : (t : Turn) (p : Places) (qs : List Part) (i : ℕ) (q : Part) (ws : Words) (z : Result Places Fault) → i < length qs → length ws ≡ 0 → filled t p (drop i qs) ws ≡ z → Err Shape ≡ z
-filled_out t p qs i q [] z l n inv = sym (filled_short t p (get_or qs i q) (drop (i + 1) qs)) ∙ sym (at_drop_more (λ ys. filled t p ys []) qs i q l) ∙ inv
-filled_out t p qs i q (w ∷ ws) z l n inv = absurd (omega arith)
+pub filled_out : (p : Places) (qs : List Part) (i : ℕ) (q : Part) (ws : Words) (t : Result Places Fault) → i < length qs → length ws ≡ 0 → filled p (drop i qs) ws ≡ t → Err Shape ≡ t
+filled_out p qs i q [] t l n inv = sym (filled_short p (get_or qs i q) (drop (i + 1) qs)) ∙ sym (at_drop_more (λ ys. filled p ys []) qs i q l) ∙ inv
+filled_out p qs i q (w ∷ ws) t l n inv = absurd (omega arith)
 
-pub filled_all : (t : Turn) (p : Places) (qs : List Part) (i : ℕ) (ws : Words) (z : Result Places Fault) → length qs ≤ i → filled t p (drop i qs) ws ≡ z → Ok p ≡ z
-filled_all t p qs i ws z l inv = sym (filled_nil t p ws) ∙ sym (at_drop_all (λ ys. filled t p ys ws) qs i l) ∙ inv
+pub filled_all : (p : Places) (qs : List Part) (i : ℕ) (ws : Words) (t : Result Places Fault) → length qs ≤ i → filled p (drop i qs) ws ≡ t → Ok p ≡ t
+filled_all p qs i ws t l inv = sym (filled_nil p ws) ∙ sym (at_drop_all (λ ys. filled p ys ws) qs i l) ∙ inv
 
 labels_here : (ls : List Label) (w : Bor (List ℕ)) (ws : Words) → labels_of ls (w ∷ ws) ≡ labels.go_on (label_of w.now) (λ l. labels_of (ls ++ l ∷ []) ws)
 unfolding labels_of
@@ -102,19 +101,3 @@ err_met A TooMany t h = h
 err_met A NoFleet t h = h
 err_met A NotKept t h = h
 err_met A NoMemory t h = refl
-
--- ---- names that are only looked at
-
-all_names_here : (w : Bor (List ℕ)) (ws : Words) → all_names (w ∷ ws) ≡ then_on (label_of w.now) (λ l. all_names ws)
-unfolding all_names
-all_names_here w ws = refl
-
-all_names_nil : all_names [] ≡ Ok tt
-unfolding all_names
-all_names_nil = refl
-
-pub names_next : (ws : Words) (i : ℕ) (w : Bor (List ℕ)) (r : Result Label Fault) (t : Result (Unit {0}) Fault) → i < length ws → r ≡ label_of (get_or ws i w).now → all_names (drop i ws) ≡ t → then_on r (λ l. all_names (drop (i + 1) ws)) ≡ t
-names_next ws i w r t l e inv = ap (λ q. then_on q (λ m. all_names (drop (i + 1) ws))) e ∙ sym (all_names_here (get_or ws i w) (drop (i + 1) ws)) ∙ sym (at_drop_more all_names ws i w l) ∙ inv
-
-pub names_all : (ws : Words) (i : ℕ) (t : Result (Unit {0}) Fault) → length ws ≤ i → all_names (drop i ws) ≡ t → Ok tt ≡ t
-names_all ws i t l inv = sym all_names_nil ∙ sym (at_drop_all all_names ws i l) ∙ inv

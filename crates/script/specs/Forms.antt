@@ -4,7 +4,7 @@ use Rattle.std.specs.Borrow.{Bor}
 use Rattle.script.specs.declared.faults.Fault.{Fault}
 use Rattle.script.specs.declared.faults.Fault.TheVariants.{Unknown, Shape}
 use Rattle.script.specs.declared.lines.Part.{Part}
-use Rattle.script.specs.declared.lines.Part.TheVariants.{Place, First, Second, Name, Other, Word}
+use Rattle.script.specs.declared.lines.Part.TheVariants.{First, Second, Name, Other, Word}
 use Rattle.script.specs.declared.lines.Part.TheVariants as part
 use Rattle.script.specs.declared.verbs.Key.{Key}
 use Rattle.script.specs.declared.verbs.Key.TheVariants as key
@@ -18,7 +18,7 @@ use Rattle.script.specs.Verbs.{verb_text, key_text}
 abbrev pub Words : Type 0
 Words = List (Bor (List ℕ))
 
--- a chip's number, ticks
+-- a machine's or a judge's place, a chip's number, ticks
 abbrev pub any : ℕ
 any = 4294967295
 
@@ -33,27 +33,27 @@ parts_of File = Name ∷ []
 parts_of FileThen = Name ∷ []
 parts_of verb.List = Name ∷ []
 parts_of ListFurther = Name ∷ []
-parts_of Switch = Place ∷ []
-parts_of Start = Place ∷ Name ∷ []
-parts_of Load = Place ∷ Name ∷ []
-parts_of Put = Place ∷ Name ∷ []
-parts_of Run = Place ∷ Name ∷ []
-parts_of Sign = Place ∷ Name ∷ []
-parts_of Count = Place ∷ []
-parts_of Read = Place ∷ []
-parts_of Keep = Place ∷ Name ∷ Word key.For ∷ []
-parts_of Close = Place ∷ Name ∷ Word key.For ∷ []
-parts_of Open = Place ∷ Other ∷ []
-parts_of CutCount = Word key.Count ∷ Place ∷ part.When ∷ []
-parts_of CutClose = Word key.Close ∷ Place ∷ []
-parts_of Chip = Place ∷ Second any ∷ []
-parts_of Good = Place ∷ []
-parts_of Rows = Place ∷ part.List ∷ []
-parts_of Ticks = Place ∷ Second any ∷ []
-parts_of Ask = Place ∷ Second any ∷ Name ∷ []
-parts_of Answer = Place ∷ Second any ∷ Name ∷ part.List ∷ Other ∷ []
-parts_of Fall = Place ∷ []
-parts_of Net = Place ∷ Word key.Chip ∷ Second any ∷ []
+parts_of Switch = First any ∷ []
+parts_of Start = First any ∷ Name ∷ []
+parts_of Load = First any ∷ Name ∷ []
+parts_of Put = First any ∷ Name ∷ []
+parts_of Run = First any ∷ Name ∷ []
+parts_of Sign = First any ∷ Name ∷ []
+parts_of Count = First any ∷ []
+parts_of Read = First any ∷ []
+parts_of Keep = First any ∷ Name ∷ Word key.For ∷ []
+parts_of Close = First any ∷ Name ∷ Word key.For ∷ []
+parts_of Open = First any ∷ Name ∷ []
+parts_of CutCount = Word key.Count ∷ First any ∷ part.When ∷ []
+parts_of CutClose = Word key.Close ∷ First any ∷ []
+parts_of Chip = First any ∷ Second any ∷ []
+parts_of Good = First any ∷ []
+parts_of Rows = First any ∷ part.List ∷ []
+parts_of Ticks = First any ∷ Second any ∷ []
+parts_of Ask = First any ∷ Second any ∷ Name ∷ []
+parts_of Answer = First any ∷ Second any ∷ Name ∷ part.List ∷ Other ∷ []
+parts_of Fall = First any ∷ []
+parts_of Net = First any ∷ Word key.Chip ∷ Second any ∷ []
 parts_of Has = Name ∷ []
 
 -- whether programs follow
@@ -86,37 +86,6 @@ open_of Answer = false
 open_of Fall = false
 open_of Net = false
 open_of Has = false
-
--- whether one program at least is wanted
-abbrev pub row_of : Verb → Bool
-row_of Keep = true
-row_of Close = true
-row_of Fleet = false
-row_of Wipe = false
-row_of File = false
-row_of FileThen = false
-row_of verb.List = false
-row_of ListFurther = false
-row_of Switch = false
-row_of Start = false
-row_of Load = false
-row_of Put = false
-row_of Run = false
-row_of Sign = false
-row_of Count = false
-row_of Read = false
-row_of Open = false
-row_of CutCount = false
-row_of CutClose = false
-row_of Chip = false
-row_of Good = false
-row_of Rows = false
-row_of Ticks = false
-row_of Ask = false
-row_of Answer = false
-row_of Fall = false
-row_of Net = false
-row_of Has = false
 
 -- the word before the name with which the line ends
 abbrev pub suffix_of : Verb → Option Key
@@ -167,7 +136,7 @@ body_of v ws = before_suffix_of (suffix_of v) ws
 
 abbrev pub long_enough : Verb → Option Words → Bool
 long_enough v None = false
-long_enough v (Some ws) = cond (row_of v) (nat_lt (length (parts_of v)) (length ws)) (cond (open_of v) (nat_le (length (parts_of v)) (length ws)) (length (parts_of v) == length ws))
+long_enough v (Some ws) = cond (open_of v) (nat_le (length (parts_of v)) (length ws)) (length (parts_of v) == length ws)
 
 -- whether these words after the verb can be its line
 abbrev pub suits_of : Verb → Words → Bool

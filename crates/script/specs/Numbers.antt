@@ -1,4 +1,4 @@
--- Numbers: decimal digits, up to a limit; a plus may stand before them.
+-- Numbers: decimal digits, up to a limit.
 use Rattle.std.specs.Prelude.{ℕ, ◌+◌, ◌-◌, ◌*◌, cond, ◌||◌, List, [], ◌∷◌, length, Some, None, Ok, Err, Option, Result, ◌==◌, nat_lt}
 use Rattle.script.specs.declared.faults.Fault.{Fault}
 use Rattle.script.specs.declared.faults.Fault.TheVariants.{NoNumber}
@@ -15,13 +15,5 @@ unfoldable pub digits_of : ℕ → ℕ → List ℕ → Result ℕ Fault
 digits_of limit n [] = Ok n
 digits_of limit n (b ∷ bs) = go_on (next_of limit n b) (λ m. digits_of limit m bs)
 
-abbrev pub digits_in : ℕ → List ℕ → Result ℕ Fault
-digits_in limit bs = cond (length bs == 0) (Err NoNumber) (digits_of limit 0 bs)
-
--- `+` is 43
-abbrev pub without_plus : List ℕ → List ℕ
-without_plus [] = []
-without_plus (b ∷ bs) = cond (b == 43) bs (b ∷ bs)
-
 abbrev pub number_of : ℕ → List ℕ → Result ℕ Fault
-number_of limit bs = digits_in limit (without_plus bs)
+number_of limit bs = cond (length bs == 0) (Err NoNumber) (digits_of limit 0 bs)

@@ -26,88 +26,88 @@ pub enum Line {
         further: Option<Label>,
     },
     Switch {
-        machine: usize,
+        machine: u32,
     },
     Start {
-        machine: usize,
+        machine: u32,
         list: Label,
     },
     Load {
-        machine: usize,
+        machine: u32,
         name: Label,
     },
     Put {
-        machine: usize,
+        machine: u32,
         program: Label,
     },
     Run {
-        machine: usize,
+        machine: u32,
         program: Label,
     },
     Sign {
-        machine: usize,
+        machine: u32,
         word: Label,
         name: Label,
     },
     Count {
-        machine: usize,
+        machine: u32,
     },
     Read {
-        machine: usize,
+        machine: u32,
     },
     Keep {
-        machine: usize,
+        machine: u32,
         word: Label,
         name: Label,
     },
     Close {
-        machine: usize,
+        machine: u32,
         word: Label,
         name: Label,
     },
     Open {
-        machine: usize,
+        machine: u32,
         name: Label,
     },
     CutCount {
-        machine: usize,
+        machine: u32,
         when: When,
     },
     CutClose {
-        machine: usize,
+        machine: u32,
     },
     Chip {
-        judge: usize,
+        judge: u32,
         chip: u32,
     },
     Good {
-        judge: usize,
+        judge: u32,
     },
     Rows {
-        judge: usize,
+        judge: u32,
         list: u16,
     },
     Ticks {
-        judge: usize,
+        judge: u32,
         ticks: u32,
     },
     Ask {
-        judge: usize,
+        judge: u32,
         chip: u32,
         word: Label,
     },
     Answer {
-        judge: usize,
+        judge: u32,
         chip: u32,
         word: Label,
         list: u16,
         name: Label,
     },
     Fall {
-        judge: usize,
+        judge: u32,
     },
     Net {
-        judge: usize,
+        judge: u32,
         chip: u32,
     },
     Has {
@@ -125,8 +125,6 @@ pub enum When {
 /// What stands at one place of a line, after its verb.
 #[derive(Clone, Copy, Debug, PartialEq, Eq)]
 pub enum Part {
-    /// Of a machine or a judge: any number.
-    Place,
     /// Numbers up to this.
     First(u32),
     Second(u32),

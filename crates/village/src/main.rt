@@ -2,7 +2,9 @@
 #![tactic(auto)]
 
 mod plays;
+mod scripts;
 mod tells;
+mod words;
 
 use anyhow::anyhow;
 use plays::play;
@@ -36,6 +38,7 @@ fn play_file(rt: &HostRuntime, path: &str) -> anyhow::Result<()> {
 }
 
 fn run(rt: &HostRuntime) -> anyhow::Result<()> {
+    // A flag: that there was no path is known only when they are through.
     let mut alone = true;
     for path in env::args(rt)?.skip(1) {
         alone = false;

@@ -1,22 +1,27 @@
 //! What came of a line, in words.
 
+use crate::words::Plain;
 use device::chips::Answer;
-use device::digests::Digest;
-use fleet::fleets::{Fault, Report};
-use scenes::stages::Outcome;
+use device::refusals::Refusal;
+use device::registers::Register;
+use fleet::fleets;
+use fleet::fleets::Report;
 use std::fmt;
-use std::str::from_utf8;
 use verifier::judges::{Acceptance, Said};
 
-/// An outcome, as a reader of the script is told of it.
 #[derive(Clone, Copy)]
-pub struct Told(pub Outcome);
+pub enum Outcome {
+    /// What the fleet reported.
+    Reported(Result<Report, fleets::Fault>),
+    /// Whether outsiders have it.
+    Has(bool),
+}
 
-impl fmt::Display for Told {
+impl fmt::Display for Outcome {
     fn fmt<W: fmt::Write>(&self, f: &mut fmt::Formatter<W>) -> fmt::Result {
-        match self.0 {
-            Outcome::Reported(Ok(report)) => tell(f, report),
-            Outcome::Reported(Err(why)) => tell_fault(f, why),
+        match self {
+            Outcome::Reported(Ok(report)) => tell(f, *report),
+            Outcome::Reported(Err(why)) => tell_fault(f, *why),
             Outcome::Has(true) => write!(f, "outsiders have it"),
             Outcome::Has(false) => write!(f, "outsiders do not have it"),
         }
@@ -28,26 +33,22 @@ fn tell<W: fmt::Write>(f: &mut fmt::Formatter<W>, report: Report) -> fmt::Result
         Report::Done => write!(f, "done"),
         Report::Answered(answer) => tell_answer(f, answer),
         Report::Told(said) => tell_said(f, said),
-        Report::Accepted(acceptance, ran) => {
-            tell_acceptance(f, acceptance)?;
-            match ran {
-                Some(ran) => tell_row(f, ran.as_slice()),
-                None => write!(f, " unknown"),
-            }
-        }
+        Report::Accepted(acceptance, ran) => tell_accepted(f, acceptance, ran),
     }
 }
 
-fn tell_fault<W: fmt::Write>(f: &mut fmt::Formatter<W>, why: Fault) -> fmt::Result {
+fn tell_fault<W: fmt::Write>(f: &mut fmt::Formatter<W>, why: fleets::Fault) -> fmt::Result {
     match why {
-        Fault::Refused(why) => {
-            let number = u8::from(why);
-            write!(f, "refused {number}")
-        }
-        Fault::Unwilling => write!(f, "unwilling"),
-        Fault::Nobody => write!(f, "nobody"),
-        Fault::NoMemory => write!(f, "no memory"),
+        fleets::Fault::Refused(why) => tell_refusal(f, why),
+        fleets::Fault::Unwilling => write!(f, "unwilling"),
+        fleets::Fault::Nobody => write!(f, "nobody"),
+        fleets::Fault::NoMemory => write!(f, "no memory"),
     }
+}
+
+fn tell_refusal<W: fmt::Write>(f: &mut fmt::Formatter<W>, why: Refusal) -> fmt::Result {
+    let number = u8::from(why);
+    write!(f, "refused {number}")
 }
 
 fn tell_answer<W: fmt::Write>(f: &mut fmt::Formatter<W>, answer: Answer) -> fmt::Result {
@@ -65,7 +66,7 @@ fn tell_answer<W: fmt::Write>(f: &mut fmt::Formatter<W>, answer: Answer) -> fmt:
         }
         Answer::Now(counter, row) => {
             write!(f, "counter {counter} row")?;
-            tell_row(f, row.as_slice())
+            tell_row(f, row)
         }
     }
 }
@@ -74,64 +75,54 @@ fn tell_said<W: fmt::Write>(f: &mut fmt::Formatter<W>, said: Said) -> fmt::Resul
     match said {
         Said::Done => write!(f, "done"),
         Said::Asks(chip, _) => write!(f, "asks {chip}"),
-        Said::Accepted(acceptance) => {
-            tell_acceptance(f, acceptance)?;
-            write!(f, " unknown")
-        }
+        Said::Accepted(acceptance) => tell_accepted(f, acceptance, None),
     }
 }
 
-/// All but what really ran.
-fn tell_acceptance<W: fmt::Write>(f: &mut fmt::Formatter<W>, accepted: Acceptance) -> fmt::Result {
-    let list = accepted.list;
+fn tell_accepted<W: fmt::Write>(
+    f: &mut fmt::Formatter<W>,
+    acceptance: Acceptance,
+    ran: Option<Register>,
+) -> fmt::Result {
+    let list = acceptance.list;
     write!(f, "accepted list {list}: row")?;
-    tell_row(f, accepted.row.as_slice())?;
+    tell_row(f, acceptance.row)?;
     write!(f, "; unknown to the office:")?;
-    tell_unknown(f, accepted)?;
-    write!(f, "; ran")
+    tell_unknown(f, acceptance)?;
+    write!(f, "; ran")?;
+    match ran {
+        Some(ran) => tell_row(f, ran),
+        None => write!(f, " unknown"),
+    }
 }
 
 /// A space before each program.
-fn tell_row<W: fmt::Write>(f: &mut fmt::Formatter<W>, row: &[Digest]) -> fmt::Result {
-    for program in row {
-        let plain = Plain(program.bytes);
+fn tell_row<W: fmt::Write>(f: &mut fmt::Formatter<W>, row: Register) -> fmt::Result {
+    for digest in row.as_slice() {
+        let plain = Plain(digest.bytes);
         write!(f, " {plain}")?;
     }
     Ok(())
 }
 
 /// Those of the row that the flags do not know.
-fn tell_unknown<W: fmt::Write>(f: &mut fmt::Formatter<W>, accepted: Acceptance) -> fmt::Result {
-    let known = accepted.flags.known;
-    let mut none = true;
-    for (program, known) in accepted.row.as_slice().iter().zip(&known) {
+fn tell_unknown<W: fmt::Write>(f: &mut fmt::Formatter<W>, acceptance: Acceptance) -> fmt::Result {
+    let mut unknown = 0u32;
+    for (digest, known) in acceptance
+        .row
+        .as_slice()
+        .iter()
+        .zip(acceptance.flags.known.iter())
+    {
         if !*known {
-            none = false;
-            let plain = Plain(program.bytes);
+            unknown = unknown.saturating_add(1);
+            let plain = Plain(digest.bytes);
             write!(f, " {plain}")?;
         }
     }
-    if none { write!(f, " none") } else { Ok(()) }
-}
-
-/// Bytes as a script writes them, without the padding.
-#[derive(Clone, Copy)]
-struct Plain([u8; 32]);
-
-impl fmt::Display for Plain {
-    fn fmt<W: fmt::Write>(&self, f: &mut fmt::Formatter<W>) -> fmt::Result {
-        let bytes = self.0;
-        match from_utf8(unpadded(&bytes)) {
-            Ok(word) => write!(f, "{word}"),
-            Err(_) => write!(f, "?"),
-        }
-    }
-}
-
-/// Up to the first zero.
-fn unpadded(bytes: &[u8]) -> &[u8] {
-    match bytes.iter().position(|byte| *byte == 0) {
-        Some(n) => &bytes[..n],
-        None => bytes,
+    if unknown == 0 {
+        write!(f, " none")
+    } else {
+        Ok(())
     }
 }

@@ -5,12 +5,12 @@ ghost use Rattle.scenes.specs.Scenes.{Opens, taken, Refuses, met, found_in, repo
 ghost use Rattle.scenes.specs.declared.steps.Step.TheVariants as steps;
 
 use crate::names::first;
-use crate::stages::looks::find;
+use crate::stages::looks::{copy, signature, thing};
 use crate::stages::{Kept, Outcome, Stage};
 use crate::steps::Step;
-use device::chips::{Answer, Command};
+use device::chips::Command;
 use device::digests::{Data, Digest};
-use fleet::fleets::{Act, Event, Fleet, Report};
+use fleet::fleets::{Act, Event, Fleet};
 use script::faults::Fault;
 use script::labels::Label;
 use std::alloc::{AllocError, Global};
@@ -29,8 +29,7 @@ impl Stage {
         let fleet = Fleet::new(heap, first(), bad, machines, judges)?;
         Ok(Stage {
             fleet,
-            signatures: Vec::new(heap),
-            things: Vec::new(heap),
+            kept: Vec::new(heap),
         })
     }
 
@@ -71,18 +70,11 @@ impl Stage {
     fn keep(&mut self, heap: Global, event: Event, name: Label) -> Result<Outcome, Fault>
         ensures { (self.new, result) ≡ kept_by (met result) (found_in result) self.old event name }
     {
-        self.signatures.reserve(1)?;
-        self.things.reserve(1)?;
+        self.kept.reserve(1)?;
         let report = self.fleet.play(heap, event, &[]);
-        match report {
+        if let Some(answer) = copy(report) {
             // There is room, so nothing fails here.
-            Ok(Report::Answered(Answer::Signed(what))) => {
-                let _ = self.signatures.insert(0, Kept { name, what });
-            }
-            Ok(Report::Answered(Answer::Closed(what))) => {
-                let _ = self.things.insert(0, Kept { name, what });
-            }
-            _ => {}
+            let _ = self.kept.insert(0, Kept { name, answer });
         }
         Ok(Outcome::Reported(report))
     }
@@ -90,7 +82,7 @@ impl Stage {
     fn open(&mut self, heap: Global, machine: usize, name: Label) -> Result<Outcome, Fault>
         ensures { (self.new, result) ≡ taken (met result) (found_in result) self.old (steps.Open machine name) [] }
     {
-        let thing = find(self.things.as_slice(), name).ok_or(Fault::NotKept)?;
+        let thing = thing(self.kept.as_slice(), name).ok_or(Fault::NotKept)?;
         self.report(
             heap,
             Event::At(machine, Act::Give(Command::Open(thing))),
@@ -109,7 +101,7 @@ impl Stage {
     ) -> Result<Outcome, Fault>
         ensures { (self.new, result) ≡ taken (met result) (found_in result) self.old (steps.Answer judge chip «data» list name) [] }
     {
-        let signature = find(self.signatures.as_slice(), name).ok_or(Fault::NotKept)?;
+        let signature = signature(self.kept.as_slice(), name).ok_or(Fault::NotKept)?;
         let reply = Reply {
             chip,
             data,

@@ -58,7 +58,10 @@ pub fn step(line: Line, programs: &[Label]) -> Result<Step, Fault>
             let act = Act::Give(Command::Close(target, data(word)));
             Ok(kept(machine, act, name))
         }
-        Line::Open { machine, name } => Ok(Step::Open { machine, name }),
+        Line::Open { machine, name } => Ok(Step::Open {
+            machine: machine as usize,
+            name,
+        }),
         Line::CutCount { machine, when } => Ok(at(machine, Act::CutCount(is_late(when)))),
         Line::CutClose { machine } => Ok(at(machine, Act::CutClose)),
         Line::Chip { judge, chip } => Ok(office(judge, Word::Chip(chip))),
@@ -66,7 +69,7 @@ pub fn step(line: Line, programs: &[Label]) -> Result<Step, Fault>
         Line::Rows { judge, list } => Ok(office(judge, Word::List(list))),
         Line::Ticks { judge, ticks } => Ok(office(judge, Word::Ticks(ticks))),
         Line::Ask { judge, chip, word } => Ok(Step::Play(Event::Office(
-            judge,
+            judge as usize,
             Word::Ask(chip),
             Some(data(word)),
         ))),
@@ -77,36 +80,38 @@ pub fn step(line: Line, programs: &[Label]) -> Result<Step, Fault>
             list,
             name,
         } => Ok(Step::Answer {
-            judge,
+            judge: judge as usize,
             chip,
             data: data(word),
             list,
             name,
         }),
-        Line::Fall { judge } => Ok(Step::Play(Event::Fall(judge))),
-        Line::Net { judge, chip } => { Ok(Step::Play(Event::Net(judge, Word::Chip(chip)))) }
+        Line::Fall { judge } => Ok(Step::Play(Event::Fall(judge as usize))),
+        Line::Net { judge, chip } => {
+            Ok(Step::Play(Event::Net(judge as usize, Word::Chip(chip))))
+        }
         Line::Has { word } => Ok(Step::Has(data(word))),
     }
 }
 
-fn at(machine: usize, act: Act) -> Step
+fn at(machine: u32, act: Act) -> Step
     ensures { result ≡ at_of machine act }
 {
-    Step::Play(Event::At(machine, act))
+    Step::Play(Event::At(machine as usize, act))
 }
 
 /// The same, where what comes of it is kept.
-fn kept(machine: usize, act: Act, name: Label) -> Step
+fn kept(machine: u32, act: Act, name: Label) -> Step
     ensures { result ≡ kept_of machine act name }
 {
-    Step::Keep(Event::At(machine, act), name)
+    Step::Keep(Event::At(machine as usize, act), name)
 }
 
 /// To a judge, by the office's line.
-fn office(judge: usize, word: Word) -> Step
+fn office(judge: u32, word: Word) -> Step
     ensures { result ≡ office_of judge word }
 {
-    Step::Play(Event::Office(judge, word, None))
+    Step::Play(Event::Office(judge as usize, word, None))
 }
 
 /// Whether the counter is written before power is lost.

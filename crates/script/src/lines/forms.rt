@@ -2,7 +2,7 @@
 
 ghost use Rattle.std.specs.Prelude.{◌≡◌, Bool};
 ghost use Rattle.std.specs.Option.{option_map};
-ghost use Rattle.script.specs.Forms.{parts_of, open_of, row_of, suffix_of, ends_with, body_of, suits_of};
+ghost use Rattle.script.specs.Forms.{parts_of, open_of, suffix_of, ends_with, body_of, suits_of};
 
 use crate::lines::Part;
 use crate::verbs::{Key, Verb};
@@ -23,25 +23,26 @@ impl Verb {
             Verb::File | Verb::FileThen | Verb::List | Verb::ListFurther | Verb::Has => {
                 &[Part::Name]
             }
-            Verb::Switch | Verb::Count | Verb::Read | Verb::Fall | Verb::Good => &[Part::Place],
-            Verb::Start | Verb::Load | Verb::Put | Verb::Run | Verb::Sign => {
-                &[Part::Place, Part::Name]
+            Verb::Switch | Verb::Count | Verb::Read | Verb::Fall | Verb::Good => {
+                &[Part::First(ANY)]
             }
-            Verb::Open => &[Part::Place, Part::Other],
-            Verb::Keep | Verb::Close => &[Part::Place, Part::Name, Part::Word(Key::For)],
-            Verb::CutCount => &[Part::Word(Key::Count), Part::Place, Part::When],
-            Verb::CutClose => &[Part::Word(Key::Close), Part::Place],
-            Verb::Chip | Verb::Ticks => &[Part::Place, Part::Second(ANY)],
-            Verb::Rows => &[Part::Place, Part::List],
-            Verb::Ask => &[Part::Place, Part::Second(ANY), Part::Name],
+            Verb::Start | Verb::Load | Verb::Put | Verb::Run | Verb::Open | Verb::Sign => {
+                &[Part::First(ANY), Part::Name]
+            }
+            Verb::Keep | Verb::Close => &[Part::First(ANY), Part::Name, Part::Word(Key::For)],
+            Verb::CutCount => &[Part::Word(Key::Count), Part::First(ANY), Part::When],
+            Verb::CutClose => &[Part::Word(Key::Close), Part::First(ANY)],
+            Verb::Chip | Verb::Ticks => &[Part::First(ANY), Part::Second(ANY)],
+            Verb::Rows => &[Part::First(ANY), Part::List],
+            Verb::Ask => &[Part::First(ANY), Part::Second(ANY), Part::Name],
             Verb::Answer => &[
-                Part::Place,
+                Part::First(ANY),
                 Part::Second(ANY),
                 Part::Name,
                 Part::List,
                 Part::Other,
             ],
-            Verb::Net => &[Part::Place, Part::Word(Key::Chip), Part::Second(ANY)],
+            Verb::Net => &[Part::First(ANY), Part::Word(Key::Chip), Part::Second(ANY)],
         }
     }
 
@@ -59,13 +60,6 @@ impl Verb {
                 | Verb::Good
                 | Verb::Rows
         )
-    }
-
-    /// Whether one program at least is wanted: a row is never left out.
-    pub fn has_row(self) -> bool
-        ensures { result ≡ row_of self }
-    {
-        matches!(self, Verb::Keep | Verb::Close)
     }
 
     /// The word before the name with which the line ends.
@@ -96,7 +90,6 @@ impl Verb {
     {
         let n = self.parts().len();
         match self.body(words) {
-            Some(body) if self.has_row() => n < body.len(),
             Some(body) if self.is_open() => n <= body.len(),
             Some(body) => n == body.len(),
             None => false,

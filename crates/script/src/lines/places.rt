@@ -1,7 +1,7 @@
 //! What stood at the places of a line, word after word.
 
 ghost use Rattle.std.specs.Prelude.{◌≡◌};
-ghost use Rattle.script.specs.Lines.{blank, when_of, put_of, ended_of, filled, line_of, put_in, comes_in};
+ghost use Rattle.script.specs.Lines.{blank, when_of, put_of, ended_of, filled, line_of};
 
 use crate::faults::Fault;
 use crate::labels::Label;
@@ -10,21 +10,11 @@ use crate::numbers::number;
 use crate::verbs::{Key, Verb};
 use std::str::FromStr;
 
-/// The order in which the parts of a line are read, so which fault is told where several words are bad.
-#[derive(Clone, Copy)]
-pub(crate) enum Turn {
-    /// The words that have a meaning of their own.
-    Words,
-    Names,
-    Others,
-}
-
 /// The words that were read so far.
 // Zeros and not Options where none was read: a verb's line takes only places that its parts have filled, so a `None`
 // would be an arm that never comes.
 #[derive(Clone, Copy)]
 pub(crate) struct Places {
-    place: usize,
     first: u32,
     second: u32,
     list: u16,
@@ -39,7 +29,6 @@ impl Places {
         ensures { result ≡ blank }
     {
         Places {
-            place: 0,
             first: 0,
             second: 0,
             list: 0,
@@ -49,16 +38,16 @@ impl Places {
         }
     }
 
-    /// Word after word, where it is the part's turn.
-    pub(crate) fn fill(self, turn: Turn, parts: &[Part], words: &[&str]) -> Result<Places, Fault>
-        ensures { result ≡ filled turn self parts.now words.now }
+    /// Word after word.
+    pub(crate) fn fill(self, parts: &[Part], words: &[&str]) -> Result<Places, Fault>
+        ensures { result ≡ filled self parts.now words.now }
     {
         let mut places = self;
         // Not a zip, which would end without a word where one is missing.
         let mut words = words.iter();
         for part in parts {
             let word = words.next().ok_or(Fault::Shape)?;
-            places = places.put_in(turn, *part, word)?;
+            places = places.put(*part, word)?;
         }
         Ok(places)
     }
@@ -76,36 +65,22 @@ impl Places {
         }
     }
 
-    fn put_in(self, turn: Turn, part: Part, word: &str) -> Result<Places, Fault>
-        ensures { result ≡ put_in turn self part word.now }
-    {
-        if part.comes_in(turn) {
-            self.put(part, word)
-        } else {
-            Ok(self)
-        }
-    }
-
     /// With the word that stands at this part.
     fn put(self, part: Part, word: &str) -> Result<Places, Fault>
         ensures { result ≡ put_of self part word.now }
     {
         match part {
-            Part::Place => Ok(Places {
-                place: number(word, usize::MAX)?,
-                ..self
-            }),
-            // A number is within its limit, so no cast loses anything.
             Part::First(limit) => Ok(Places {
-                first: number(word, limit as usize)? as u32,
+                first: number(word, limit)?,
                 ..self
             }),
             Part::Second(limit) => Ok(Places {
-                second: number(word, limit as usize)? as u32,
+                second: number(word, limit)?,
                 ..self
             }),
+            // The number is within its limit, so the cast loses nothing.
             Part::List => Ok(Places {
-                list: number(word, usize::from(u16::MAX))? as u16,
+                list: number(word, u32::from(u16::MAX))? as u16,
                 ..self
             }),
             Part::Name => Ok(Places {
@@ -130,7 +105,6 @@ impl Places {
         ensures { result ≡ line_of verb self }
     {
         let Places {
-            place,
             first,
             second,
             list,
@@ -157,89 +131,77 @@ impl Places {
                 name,
                 further: Some(other),
             },
-            Verb::Switch => Line::Switch { machine: place },
+            Verb::Switch => Line::Switch { machine: first },
             Verb::Start => Line::Start {
-                machine: place,
+                machine: first,
                 list: name,
             },
             Verb::Load => Line::Load {
-                machine: place,
+                machine: first,
                 name,
             },
             Verb::Put => Line::Put {
-                machine: place,
+                machine: first,
                 program: name,
             },
             Verb::Run => Line::Run {
-                machine: place,
+                machine: first,
                 program: name,
             },
             Verb::Sign => Line::Sign {
-                machine: place,
+                machine: first,
                 word: name,
                 name: other,
             },
-            Verb::Count => Line::Count { machine: place },
-            Verb::Read => Line::Read { machine: place },
+            Verb::Count => Line::Count { machine: first },
+            Verb::Read => Line::Read { machine: first },
             Verb::Keep => Line::Keep {
-                machine: place,
+                machine: first,
                 word: name,
                 name: other,
             },
             Verb::Close => Line::Close {
-                machine: place,
+                machine: first,
                 word: name,
                 name: other,
             },
             Verb::Open => Line::Open {
-                machine: place,
-                name: other,
+                machine: first,
+                name,
             },
             Verb::CutCount => Line::CutCount {
-                machine: place,
+                machine: first,
                 when,
             },
-            Verb::CutClose => Line::CutClose { machine: place },
+            Verb::CutClose => Line::CutClose { machine: first },
             Verb::Chip => Line::Chip {
-                judge: place,
+                judge: first,
                 chip: second,
             },
-            Verb::Good => Line::Good { judge: place },
-            Verb::Rows => Line::Rows { judge: place, list },
+            Verb::Good => Line::Good { judge: first },
+            Verb::Rows => Line::Rows { judge: first, list },
             Verb::Ticks => Line::Ticks {
-                judge: place,
+                judge: first,
                 ticks: second,
             },
             Verb::Ask => Line::Ask {
-                judge: place,
+                judge: first,
                 chip: second,
                 word: name,
             },
             Verb::Answer => Line::Answer {
-                judge: place,
+                judge: first,
                 chip: second,
                 word: name,
                 list,
                 name: other,
             },
-            Verb::Fall => Line::Fall { judge: place },
+            Verb::Fall => Line::Fall { judge: first },
             Verb::Net => Line::Net {
-                judge: place,
+                judge: first,
                 chip: second,
             },
             Verb::Has => Line::Has { word: name },
-        }
-    }
-}
-
-impl Part {
-    fn comes_in(self, turn: Turn) -> bool
-        ensures { result ≡ comes_in turn self }
-    {
-        match self {
-            Part::Word(_) | Part::When => matches!(turn, Turn::Words),
-            Part::Name => matches!(turn, Turn::Names),
-            _ => matches!(turn, Turn::Others),
         }
     }
 }

@@ -4,12 +4,11 @@ ghost use Rattle.std.specs.Prelude.{◌≡◌};
 ghost use Rattle.script.specs.Forms.{first_suiting, misfit_of};
 ghost use Rattle.script.specs.Forms as forms;
 ghost use Rattle.script.specs.Verbs.{verbs};
-ghost use Rattle.script.specs.Lines.{read_as, read_of, seen, vetted, few_of, all_names};
+ghost use Rattle.script.specs.Lines.{read_as, read_of, seen};
 
 use crate::faults::Fault;
-use crate::labels::Label;
 use crate::lines::Line;
-use crate::lines::places::{Places, Turn};
+use crate::lines::places::Places;
 use crate::verbs::Verb;
 
 /// The line of these words, and its programs.
@@ -30,45 +29,10 @@ fn read_as<'a>(verb: Verb, words: &'a [&'a str]) -> Result<(Line, &'a [&'a str])
     let parts = verb.parts();
     let body = verb.body(words).ok_or(Fault::Shape)?;
     let (placed, programs) = body.split_at_checked(parts.len()).ok_or(Fault::Shape)?;
-    let places = Places::new().fill(Turn::Words, parts, placed)?;
-    vet(verb, body, programs)?;
-    let places = places
-        .fill(Turn::Names, parts, placed)?
-        .fill(Turn::Others, parts, placed)?
+    let places = Places::new()
+        .fill(parts, placed)?
         .end(verb.suffix(), words)?;
     Ok((places.line(verb), programs))
-}
-
-/// A row's programs, and a start list's name and programs: what is wrong with them is told before other names and numbers.
-fn vet(verb: Verb, body: &[&str], programs: &[&str]) -> Result<(), Fault>
-    ensures { result ≡ vetted verb body.now programs.now }
-{
-    match verb {
-        Verb::List => few(body, 9, 9),
-        Verb::ListFurther => few(body, 9, 8),
-        Verb::Keep | Verb::Close => few(programs, 17, 16),
-        _ => Ok(()),
-    }
-}
-
-/// Of the first words each has to be a name; more than `most` are too many.
-fn few(words: &[&str], looked: usize, most: usize) -> Result<(), Fault>
-    ensures { result ≡ few_of looked most words.now }
-{
-    all_names(&words[..words.len().min(looked)])?;
-    if words.len() > most {
-        return Err(Fault::TooMany);
-    }
-    Ok(())
-}
-
-fn all_names(words: &[&str]) -> Result<(), Fault>
-    ensures { result ≡ all_names words.now }
-{
-    for word in words {
-        word.parse::<Label>()?;
-    }
-    Ok(())
 }
 
 /// Whether a line of this first word can be this verb's.
@@ -102,6 +66,7 @@ fn misfit(word: &str) -> Fault
 #[cfg(test)]
 mod tests {
     use super::*;
+    use crate::labels::Label;
 
     #[test]
     fn programs_stand_between_parts_and_suffix(rt: HostRuntime) -> Result<(), Fault> {

@@ -5,4 +5,4 @@ use Rattle.script.proofs.lines.places.Places.fill.Given as goal
 
 -- what is left comes to the whole
 abbrev pub invariant-loop-part : goal.invariant-loop-part
-invariant-loop-part l = filled l.fn.turn l.places (drop l.part-index l.parts) (iter_rest l.words) ≡ filled l.fn.turn l.fn.self l.parts l.fn.words
+invariant-loop-part l = filled l.places (drop l.part-index l.parts) (iter_rest l.words) ≡ filled l.fn.self l.parts l.fn.words
