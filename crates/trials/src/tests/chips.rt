@@ -1,6 +1,6 @@
 //! Tests of the chip.
 
-use crate::tests::{data, digest, row, told};
+use crate::tests::{data, digest, give, row, told};
 use device::chips::{Answer, Chip, Command, Content, Seal, Target, Thing};
 use std::test::Fail;
 
@@ -9,14 +9,6 @@ fn counter(chip: Chip) -> Option<u64> {
     match chip.answer(Command::Read) {
         Ok((_, Answer::Now(counter, _))) => Some(counter),
         _ => None,
-    }
-}
-
-/// The chip after a command, and its answer, where it does not refuse.
-pub fn give(chip: Chip, command: Command) -> Result<(Chip, Answer), Fail> {
-    match chip.answer(command) {
-        Ok(given) => Ok(given),
-        Err(_) => Err(Fail::new("refused")),
     }
 }
 

@@ -20,7 +20,7 @@ fn number(outcome: Result<Said, Fault>) -> Option<u8> {
 
 /// A judge, and what a test needs to give it words.
 #[derive(Drop)]
-pub struct Bench<'a, R> {
+struct Bench<'a, R> {
     rt: &'a R,
     heap: Global,
     judge: Judge,
@@ -28,7 +28,7 @@ pub struct Bench<'a, R> {
 
 impl<'a, R: Abort> Bench<'a, R> {
     /// A judge that knows nothing but the first program.
-    pub fn new(rt: &'a R, heap: Global) -> Bench<'a, R> {
+    fn new(rt: &'a R, heap: Global) -> Bench<'a, R> {
         Bench {
             rt,
             heap,
@@ -38,7 +38,7 @@ impl<'a, R: Abort> Bench<'a, R> {
 
     /// A judge that knows chips 1 and 2, list 5 of the first program and program 1, and list 6 of the first program; chip
     /// 1 was asked with data 40.
-    pub fn ready(rt: &'a R, heap: Global) -> Bench<'a, R> {
+    fn ready(rt: &'a R, heap: Global) -> Bench<'a, R> {
         let mut bench = Bench::new(rt, heap);
         bench.takes(Word::Chip(1), &[], "chip 1");
         bench.takes(Word::Chip(2), &[], "chip 2");
@@ -49,19 +49,19 @@ impl<'a, R: Abort> Bench<'a, R> {
     }
 
     /// A word from the office with these digests, which the judge takes.
-    pub fn takes(&mut self, word: Word, digests: &[Digest], note: &str) {
+    fn takes(&mut self, word: Word, digests: &[Digest], note: &str) {
         let outcome = self.judge.office(self.heap, word, digests, None);
         assert!(self.rt; matches!(outcome, Ok(Said::Done)), "{}", note);
     }
 
     /// The same, which it refuses by this number.
-    pub fn refuses(&mut self, word: Word, digests: &[Digest], why: u8, note: &str) {
+    fn refuses(&mut self, word: Word, digests: &[Digest], why: u8, note: &str) {
         let outcome = self.judge.office(self.heap, word, digests, None);
         assert_eq!(self.rt; number(outcome), Some(why), "{}", note);
     }
 
     /// The office has the chip asked with this data, and the judge asks.
-    pub fn asks(&mut self, chip: u32, n: u8, note: &str) {
+    fn asks(&mut self, chip: u32, n: u8, note: &str) {
         let outcome = self
             .judge
             .office(self.heap, Word::Ask(chip), &[], Some(data(n)));
@@ -69,7 +69,7 @@ impl<'a, R: Abort> Bench<'a, R> {
     }
 
     /// The same, and the judge does not ask.
-    pub fn does_not_ask(&mut self, chip: u32, n: u8, why: u8, note: &str) {
+    fn does_not_ask(&mut self, chip: u32, n: u8, why: u8, note: &str) {
         let outcome = self
             .judge
             .office(self.heap, Word::Ask(chip), &[], Some(data(n)));
@@ -77,31 +77,31 @@ impl<'a, R: Abort> Bench<'a, R> {
     }
 
     /// A word from the net, which the judge refuses.
-    pub fn refuses_from_net(&mut self, word: Word, why: u8, note: &str) {
+    fn refuses_from_net(&mut self, word: Word, why: u8, note: &str) {
         assert_eq!(self.rt; number(self.judge.net(word)), Some(why), "{}", note);
     }
 
     /// An answer from the net, which the judge accepts.
-    pub fn accepts(&mut self, reply: Reply, note: &str) {
+    fn accepts(&mut self, reply: Reply, note: &str) {
         let outcome = self.judge.net(Word::Answer(reply));
         assert!(self.rt; matches!(outcome, Ok(Said::Accepted(_))), "{}", note);
     }
 
-    pub fn net(&mut self, word: Word) -> Result<Said, Fault> {
+    fn net(&mut self, word: Word) -> Result<Said, Fault> {
         self.judge.net(word)
     }
 
-    pub fn knows(&self, digest: Digest) -> bool {
+    fn knows(&self, digest: Digest) -> bool {
         self.judge.known(digest)
     }
 
-    pub fn fall(&mut self) {
+    fn fall(&mut self) {
         self.judge.fall();
     }
 }
 
 /// What chip 1 signs with the row of list 5 when it is asked with this data.
-pub fn reply(n: u8) -> Reply {
+fn reply(n: u8) -> Reply {
     Reply {
         chip: 1,
         data: data(n),

@@ -1,8 +1,7 @@
 //! What a judge says to answers, and when it puts a question out.
 
-use crate::tests::chips::give;
 use crate::tests::judges::{Bench, reply};
-use crate::tests::{FIRST, data, digest, row};
+use crate::tests::{FIRST, data, digest, give, row};
 use device::chips::{Answer, Chip, Command, Signature};
 use std::test::Fail;
 use verifier::judges::{Reply, Said, Word};
