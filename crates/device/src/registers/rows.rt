@@ -25,6 +25,13 @@ impl Register {
         self.len
     }
 
+    /// All sixteen places, the oldest digest first; those past the row's end mean nothing.
+    pub fn digests(self) -> [Digest; 16]
+        ensures { result ≡ self.digests }
+    {
+        self.digests
+    }
+
     /// The digests, the oldest first.
     pub fn as_slice(&self) -> &[Digest]
         ensures { result.now ≡ row self.now }
