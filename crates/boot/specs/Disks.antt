@@ -8,8 +8,6 @@ use Rattle.boot.specs.declared.disks.Name.{Name}
 use Rattle.boot.specs.declared.disks.StartList.{StartList}
 use Rattle.boot.specs.declared.disks.File.{File}
 use Rattle.boot.specs.declared.disks.File.TheVariants as file
-use Rattle.boot.specs.declared.disks.Seen.{Seen}
-use Rattle.boot.specs.declared.disks.Seen.TheVariants.{Unread, Read, Listed}
 use Rattle.boot.specs.declared.disks.Entry.{Entry}
 use Rattle.boot.specs.declared.disks.Batch.{Batch}
 
@@ -17,7 +15,7 @@ abbrev pub same_name : Name → Name → Bool
 same_name m n = bytes_eq m.bytes n.bytes
 
 abbrev pub new_entry : Name → File → File → Entry
-new_entry n f g = record { name = n; file = f; swapped = g; seen = Unread }
+new_entry n f g = record { name = n; file = f; swapped = g; read = false; listed = false }
 
 -- one file more, if memory is found
 abbrev pub added : Bool → List Entry → Name → File → File → List Entry
@@ -30,34 +28,19 @@ unread e = new_entry e.name e.file e.swapped
 abbrev pub place : List Entry → Name → Option ℕ
 place es n = position (λ e. same_name e.name n) es
 
--- whether the file was read, and whether it was read as a start list
-abbrev pub was_read : Seen → Bool
-was_read Unread = false
-was_read Read = true
-was_read Listed = true
-
-abbrev pub was_listed : Seen → Bool
-was_listed Unread = false
-was_listed Read = false
-was_listed Listed = true
-
 -- what a read gives: once the file was read, what was put in its place
 abbrev pub shown : Entry → File
-shown e = cond (was_read e.seen) e.swapped e.file
-
--- after a read: it was read as a start list if this read, or one before it, is as one
-abbrev pub seen_by : (as_list : Bool) → Seen → Seen
-seen_by as_list s = cond (cond (was_listed s) true as_list) Listed Read
+shown e = cond e.read e.swapped e.file
 
 abbrev pub marked : Bool → Entry → Entry
-marked as_list e = record { name = e.name; file = e.file; swapped = e.swapped; seen = seen_by as_list e.seen }
+marked as_list e = record { name = e.name; file = e.file; swapped = e.swapped; read = true; listed = cond e.listed true as_list }
 
 -- what stands past the end, and is never read
 abbrev pub blank : Entry
 blank = new_entry (record { bytes = [] }) (file.Program (record { bytes = [] })) (file.Program (record { bytes = [] }))
 
 abbrev pub read_entry : Bool → List Entry → ℕ → Entry → List Entry × Option File
-read_entry as_list es i e = cond (cond as_list (was_listed e.seen) false) (es, None) (slice_set es i (marked as_list e), Some (shown e))
+read_entry as_list es i e = cond (cond as_list e.listed false) (es, None) (slice_set es i (marked as_list e), Some (shown e))
 
 abbrev pub read_at : Bool → List Entry → Option ℕ → List Entry × Option File
 read_at as_list es None = (es, None)

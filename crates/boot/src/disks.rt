@@ -2,13 +2,32 @@
 
 pub mod reads;
 
+ghost use Rattle.std.specs.Prelude.{◌≡◌, Decides};
+ghost use Rattle.std.specs.Str.{bytes_eq};
+ghost use Rattle.std.specs.Cmp.Rules.{comparing};
+ghost use Rattle.std.proofs.Common.{rules};
+
 use device::digests::Digest;
 use device::registers::Register;
 use std::marker::Model;
 
-#[derive(Clone, Copy, PartialEq, Eq)]
+#[derive(Clone, Copy, Eq)]
 pub struct Name {
     pub bytes: [u8; 16],
+}
+
+// By hand: a derive's `==` has no clause that it decides whether the two are the same.
+impl PartialEq for Name {
+    ghost eq = { λ x y. bytes_eq x.bytes y.bytes };
+
+    ghost laws = { Prim.search (comparing, rules) };
+
+    fn eq(&self, other: &Name) -> bool
+        ensures computes { result ≡ bytes_eq self.now.bytes other.now.bytes }
+        ensures decides { Decides result (self.now ≡ other.now) }
+    {
+        self.bytes == other.bytes
+    }
 }
 
 /// A start list: up to eight names; where `further` is set, the last is that of a further start list.
@@ -27,15 +46,6 @@ pub enum File {
     List(StartList),
 }
 
-/// How a file was read since the start.
-#[derive(Clone, Copy, PartialEq, Eq)]
-pub enum Seen {
-    Unread,
-    Read,
-    /// Read as a start list, at least once.
-    Listed,
-}
-
 /// What stands under a name. Outsiders own the disk: once a file was read they may put another in its place, which is
 /// what any later read of it gives in the same start.
 #[derive(Clone, Copy)]
@@ -43,13 +53,16 @@ pub struct Entry {
     pub name: Name,
     pub file: File,
     pub swapped: File,
-    pub seen: Seen,
+    /// Read since the start, and read as a start list. Two flags and no enum of three states, since callers may write down
+    /// all four.
+    pub read: bool,
+    pub listed: bool,
 }
 
 /// The entries, the oldest first.
 #[derive(Drop)]
 pub struct Disk {
-    entries: Vec<Entry>,
+    pub entries: Vec<Entry>,
 }
 
 impl Model for Disk {

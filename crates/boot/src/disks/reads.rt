@@ -2,34 +2,19 @@
 
 ghost use Rattle.std.specs.Prelude.{◌≡◌, [], map, length, is_ok};
 ghost use Rattle.device.specs.Rows.{empty_register};
-ghost use Rattle.boot.specs.Disks.{added, unread, place, shown, seen_by, read_of, program_of, programs_of, listed_of, batch_of};
+ghost use Rattle.boot.specs.Disks.{added, unread, place, shown, read_of, program_of, programs_of, listed_of, batch_of};
 
-use crate::disks::{Batch, Disk, Entry, File, Name, Seen, StartList};
+use crate::disks::{Batch, Disk, Entry, File, Name, StartList};
 use device::digests::Digest;
 use device::registers::Register;
 use std::alloc::{AllocError, Global};
-
-impl Seen {
-    /// After one read more.
-    fn again(self, as_list: bool) -> Seen
-        ensures { result ≡ seen_by as_list self }
-    {
-        match self {
-            Seen::Listed => Seen::Listed,
-            Seen::Unread | Seen::Read => if as_list { Seen::Listed } else { Seen::Read },
-        }
-    }
-}
 
 impl Entry {
     /// What a read gives: once the file was read, what was put in its place.
     fn shown(self) -> File
         ensures { result ≡ shown self }
     {
-        match self.seen {
-            Seen::Unread => self.file,
-            Seen::Read | Seen::Listed => self.swapped,
-        }
+        if self.read { self.swapped } else { self.file }
     }
 }
 
@@ -50,7 +35,8 @@ impl Disk {
             name,
             file,
             swapped,
-            seen: Seen::Unread,
+            read: false,
+            listed: false,
         })?;
         Ok(())
     }
@@ -74,7 +60,8 @@ impl Disk {
         ensures { self.new ≡ map unread self.old }
     {
         for entry in self.entries.iter_mut() {
-            entry.seen = Seen::Unread;
+            entry.read = false;
+            entry.listed = false;
         }
     }
 
@@ -91,11 +78,12 @@ impl Disk {
     {
         let i = self.find(name)?;
         let entry = &mut self.entries[i];
-        if as_list && entry.seen == Seen::Listed {
+        if as_list && entry.listed {
             return None;
         }
         let file = entry.shown();
-        entry.seen = entry.seen.again(as_list);
+        entry.read = true;
+        entry.listed = entry.listed || as_list;
         Some(file)
     }
 
