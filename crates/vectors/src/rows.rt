@@ -5,6 +5,7 @@ ghost use Rattle.vectors.specs.Tallies.{counted, none};
 
 use hash::comparisons::equal;
 use std::alloc::{AllocError, Global};
+use std::convert::AsSlice;
 use std::{fmt, io};
 
 /// Bytes, shown in hexadecimal.
@@ -94,8 +95,8 @@ impl<'a> Report<'a> {
         println!(self.rt; "{name}: came {came}, expected {expected}: {verdict}")
     }
 
-    /// Prints a line for each case, of what `give` makes of its input.
-    pub fn run<I, F: Fn(&I, Global) -> Result<Vec<u8>, AllocError>>(
+    /// Prints a line for each case, of what `give` makes of its input: an array where that serves, so that it takes no memory.
+    pub fn run<I, B: AsSlice<u8> + Drop, F: Fn(&I, Global) -> Result<B, AllocError>>(
         &mut self,
         cases: &[Case<I>],
         give: F,
@@ -105,7 +106,7 @@ impl<'a> Report<'a> {
     {
         for case in cases {
             let came = give(&case.input, self.rt.alloc())?;
-            self.print(case.name, &came, case.expected)?;
+            self.print(case.name, came.as_slice(), case.expected)?;
         }
         Ok(())
     }
