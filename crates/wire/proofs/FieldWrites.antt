@@ -1,5 +1,5 @@
 -- Fields written one after another.
-use Rattle.std.proofs.Common.{◌≡◌, ℕ, ◌+◌, ◌-◌, ◌<◌, ◌≤◌, Bool, true, false, List, [], ◌∷◌, ◌++◌, length, get_or, take, drop, Some, None, Option, SomeIff, sym, refl, ap, ◌∙◌, subst, add-zero, arith, ◌^◌}
+use Rattle.std.proofs.Common.{◌≡◌, ℕ, ◌+◌, ◌-◌, ◌<◌, ◌≤◌, Bool, true, false, List, [], ◌∷◌, ◌++◌, length, get_or, take, drop, Some, None, Option, SomeIff, sym, refl, ap, ◌∙◌, subst, add-zero, arith, ◌^◌, min}
 use borrow.Rule.Slice.PartMut.{put_mid}
 use Rattle.std.proofs.lemmas.List.{append-nil, append_assoc, length-append, take_at, drop-drop, drop_at, take-append-drop, map-append, map_more}
 use Rattle.std.specs.List.{fold}
@@ -55,6 +55,25 @@ pub untold : (fs : List code.Field) (r : Option ℕ) → r ≡ None → 2 ^ 64 �
 untold fs r is large =
     let l = fold_with fs 0 in
     subst (λ o. SomeIff o (length (encoded (fields_of fs)) < 2 ^ 64) (length (encoded (fields_of fs)))) (sym is) (λ h. omega arith)
+
+-- one field's bytes more, and never more than the limit
+abbrev pub within : ℕ → ℕ → code.Field → ℕ
+within limit n f = min limit (with n f)
+
+fold_within : (limit : ℕ) (fs : List code.Field) (n : ℕ) → n ≤ limit → fold (within limit) n fs ≤ limit
+fold_within limit [] n h = h
+fold_within limit (f ∷ fs) n h = fold_within limit fs (within limit n f) (omega arith)
+
+pub told_within : (fs : List code.Field) (limit : ℕ) (r : Option ℕ) (n : ℕ) → r ≡ Some n → n ≡ fold (within limit) 0 fs → n ≡ fold with 0 fs → SomeIff r (length (encoded (fields_of fs)) ≤ limit) (length (encoded (fields_of fs)))
+told_within fs limit r n is low e =
+    let l = fold_with fs 0 in
+    let k = fold_within limit fs 0 (omega arith) in
+    subst (λ o. SomeIff o (length (encoded (fields_of fs)) ≤ limit) (length (encoded (fields_of fs)))) (sym is) (omega arith, omega arith)
+
+pub untold_within : (fs : List code.Field) (limit : ℕ) (r : Option ℕ) → r ≡ None → limit < fold with 0 fs → SomeIff r (length (encoded (fields_of fs)) ≤ limit) (length (encoded (fields_of fs)))
+untold_within fs limit r is large =
+    let l = fold_with fs 0 in
+    subst (λ o. SomeIff o (length (encoded (fields_of fs)) ≤ limit) (length (encoded (fields_of fs)))) (sym is) (λ h. omega arith)
 
 pub either : {P Q R : Type 0} (b : Bool) → MatchBool b P Q → (b ≡ true → P → R) → (b ≡ false → Q → R) → R
 either true m on off = on refl m

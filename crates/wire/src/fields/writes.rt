@@ -1,6 +1,6 @@
 //! Writing fields into lent slices, high byte first.
 
-ghost use Rattle.std.specs.Prelude.{◌≡◌, ◌<◌, ◌^◌, length, SomeIff};
+ghost use Rattle.std.specs.Prelude.{◌≡◌, ◌≤◌, length, SomeIff};
 ghost use Rattle.wire.specs.Fields.{field_of, fields_of, written};
 ghost use Rattle.wire.specs.Layouts.{bytes_of, encoded};
 
@@ -37,20 +37,23 @@ impl Field<'_> {
     }
 }
 
-/// How many bytes the fields have, if a `usize` tells it.
-fn total(fields: &[Field<'_>]) -> Option<usize>
-    ensures { SomeIff result (length (encoded (fields_of fields.now)) < 2 ^ 64) (length (encoded (fields_of fields.now))) }
+/// How many bytes the fields have, unless there are more than so many.
+fn total(fields: &[Field<'_>], limit: usize) -> Option<usize>
+    ensures { SomeIff result (length (encoded (fields_of fields.now)) ≤ limit) (length (encoded (fields_of fields.now))) }
 {
-    fields
-        .iter()
-        .try_fold(0usize, |total, field| total.checked_add(field.size()))
+    // The limit is held at each field and not at the end, so that nothing past the first field without room is read.
+    fields.iter().try_fold(0usize, |total, field| {
+        total
+            .checked_add(field.size())
+            .filter(|total| *total <= limit)
+    })
 }
 
 /// Writes the fields at the slice's beginning and tells how many bytes they have, or writes nothing if they do not fit.
 pub fn write(fields: &[Field<'_>], out: &mut [u8]) -> Option<usize>
     ensures { (result, out.new) ≡ written (encoded (fields_of fields.now)) out.old }
 {
-    let size = total(fields).filter(|size| *size <= out.len())?;
+    let size = total(fields, out.len())?;
     // Where the next field begins: they differ in size, so that no `chunks` gives their places.
     let mut at = 0;
     for field in fields {
