@@ -61,3 +61,19 @@ nested k (x ∷ w) h = nested_cons k x w ∙ ap (λ v. under k (read_of Malforme
 -- a word of this kind whose thing is this part of it
 pub inside : (k : ℕ) (w : List ℕ) (r : Result (List Field) Refusal) → 1 ≤ length w → r ≡ read_of Malformed thing_forms (take (length w - 1) (drop 1 w)) → under k r ≡ read_form (refusing Malformed k whole_thing) w
 inside k w r h is = ap (under k) is ∙ sym (nested k w h)
+
+-- any fault of a thing is that it is malformed
+only_malformed : (w : List ℕ) (e : Refusal) → Err e ≡ read_of Malformed thing_forms w → e ≡ Malformed
+only_malformed w e is = by (eqb (get_or w 0 0) 2) is
+  where
+    in_form : (b : Bool) → Err e ≡ cond b (Ok (Number 1 2 ∷ fields 1 thing_parts w)) (Err Malformed) → e ≡ Malformed
+    in_form true h = let z : ◌≡◌ {A = ℕ} 0 1 = cc in absurd (omega arith)
+    in_form false h = cc
+
+    by : (b : Bool) → Err e ≡ read_by Malformed (cond b (Some thing_form) None) w → e ≡ Malformed
+    by true h = in_form (eqb (total 1 thing_parts w) (length w) && allowed 1 thing_parts w) (h ∙ refusing_is Malformed 2 thing_parts w)
+    by false h = cc
+
+-- so a word whose thing can't be read is malformed, too
+pub inside_fault : (k : ℕ) (w : List ℕ) (e : Refusal) → 1 ≤ length w → Err e ≡ read_of Malformed thing_forms (take (length w - 1) (drop 1 w)) → Err Malformed ≡ read_form (refusing Malformed k whole_thing) w
+inside_fault k w e h is = sym (nested k w h ∙ ap (under k) (sym is) ∙ ap (λ x. Err x) (only_malformed (take (length w - 1) (drop 1 w)) e is))
