@@ -1,4 +1,4 @@
--- Why an event came to nothing.
+-- Why an event did not do what it is for.
 use Rattle.verifier.specs.declared.judges.Fault.{Fault as JudgeFault}
 use Rattle.verifier.specs.declared.judges.Fault.TheVariants as judge
 use Rattle.fleet.specs.declared.fleets.Fault.{Fault}

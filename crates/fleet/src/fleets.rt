@@ -106,7 +106,7 @@ pub enum Report {
     Accepted(Acceptance, Option<Register>),
 }
 
-/// Why an event came to nothing.
+/// Why an event did not do what it is for. A start that is refused still switched the machine on, and keeps what it loaded.
 #[derive(Clone, Copy, Debug, PartialEq, Eq)]
 pub enum Fault {
     /// The loader, the chip or the judge refused.
