@@ -4,7 +4,7 @@ use crate::scripts::{Fault, Step, bare, parse, programs};
 use crate::tells::Outcome;
 use crate::words::Label;
 use device::chips::{Answer, Command, Signature, Thing};
-use device::digests::Digest;
+use device::digests::{Data, Digest};
 use fleet::fleets::{Act, Event, Fleet, Report};
 use std::alloc::Global;
 use std::io;
@@ -60,34 +60,51 @@ impl Stage {
         let words: Vec<&str> = line.split_whitespace().collect(heap)?;
         let step = parse(words.as_slice())?;
         let digests = programs(heap, words.as_slice())?;
-        self.take(heap, step, digests.as_slice())
+        self.take(heap, &step, digests.as_slice())
     }
 
-    fn take(&mut self, heap: Global, step: Step, digests: &[Digest]) -> Result<Outcome, Fault> {
+    fn take(&mut self, heap: Global, step: &Step, digests: &[Digest]) -> Result<Outcome, Fault> {
         match step {
-            Step::Fleet(machines, judges) => self.begin(heap, digests, machines, judges),
-            Step::Play(event) => self.report(heap, event, digests),
-            Step::Keep(event, name) => self.keep(heap, event, name),
-            Step::Open(i, name) => {
-                let thing = find(self.things.as_slice(), name)?;
-                let act = Act::Give(Command::Open(thing));
-                self.report(heap, Event::At(i, act), &[])
-            }
-            Step::Answer(j, chip, data, list, name) => {
-                let signature = find(self.signatures.as_slice(), name)?;
-                let reply = Reply {
-                    chip,
-                    data,
-                    list,
-                    signature,
-                };
-                self.report(heap, Event::Net(j, Word::Answer(reply)), &[])
-            }
+            Step::Fleet(machines, judges) => self.begin(heap, digests, *machines, *judges),
+            Step::Play(event) => self.report(heap, *event, digests),
+            Step::Keep(event, name) => self.keep(heap, *event, *name),
+            Step::Open(machine, name) => self.open(heap, *machine, *name),
+            Step::Answer(judge, chip, data, list, name) => self.answer(
+                heap, *judge, *chip, *data, *list, *name,
+            ),
             Step::Has(data) => {
                 let fleet = self.fleet.as_ref().ok_or(Fault::NoFleet)?;
-                Ok(Outcome::Has(fleet.has(data)))
+                Ok(Outcome::Has(fleet.has(*data)))
             }
         }
+    }
+
+    /// The thing of this name is brought to the machine.
+    // A function of its own, as `answer`: what it holds is laid out for a line of this kind alone.
+    fn open(&mut self, heap: Global, machine: usize, name: Label) -> Result<Outcome, Fault> {
+        let thing = find(self.things.as_slice(), name)?;
+        let act = Act::Give(Command::Open(thing));
+        self.report(heap, Event::At(machine, act), &[])
+    }
+
+    /// The signature of this name is brought to the judge by the net.
+    fn answer(
+        &mut self,
+        heap: Global,
+        judge: usize,
+        chip: u32,
+        data: Data,
+        list: u16,
+        name: Label,
+    ) -> Result<Outcome, Fault> {
+        let signature = find(self.signatures.as_slice(), name)?;
+        let reply = Reply {
+            chip,
+            data,
+            list,
+            signature,
+        };
+        self.report(heap, Event::Net(judge, Word::Answer(reply)), &[])
     }
 
     /// A new fleet; nothing of an older one is kept.

@@ -20,7 +20,7 @@ pub enum Outcome {
 impl fmt::Display for Outcome {
     fn fmt<W: fmt::Write>(&self, f: &mut fmt::Formatter<W>) -> fmt::Result {
         match self {
-            Outcome::Reported(Ok(report)) => tell(f, *report),
+            Outcome::Reported(Ok(report)) => tell(f, report),
             Outcome::Reported(Err(why)) => tell_fault(f, *why),
             Outcome::Has(true) => write!(f, "outsiders have it"),
             Outcome::Has(false) => write!(f, "outsiders do not have it"),
@@ -28,12 +28,12 @@ impl fmt::Display for Outcome {
     }
 }
 
-fn tell<W: fmt::Write>(f: &mut fmt::Formatter<W>, report: Report) -> fmt::Result {
+fn tell<W: fmt::Write>(f: &mut fmt::Formatter<W>, report: &Report) -> fmt::Result {
     match report {
         Report::Done => write!(f, "done"),
         Report::Answered(answer) => tell_answer(f, answer),
         Report::Told(said) => tell_said(f, said),
-        Report::Accepted(acceptance, ran) => tell_accepted(f, acceptance, ran),
+        Report::Accepted(acceptance, ran) => tell_accepted(f, acceptance, ran.as_ref()),
     }
 }
 
@@ -51,7 +51,7 @@ fn tell_refusal<W: fmt::Write>(f: &mut fmt::Formatter<W>, why: Refusal) -> fmt::
     write!(f, "refused {number}")
 }
 
-fn tell_answer<W: fmt::Write>(f: &mut fmt::Formatter<W>, answer: Answer) -> fmt::Result {
+fn tell_answer<W: fmt::Write>(f: &mut fmt::Formatter<W>, answer: &Answer) -> fmt::Result {
     match answer {
         Answer::Done => write!(f, "done"),
         Answer::Signed(_) => write!(f, "signed"),
@@ -71,7 +71,7 @@ fn tell_answer<W: fmt::Write>(f: &mut fmt::Formatter<W>, answer: Answer) -> fmt:
     }
 }
 
-fn tell_said<W: fmt::Write>(f: &mut fmt::Formatter<W>, said: Said) -> fmt::Result {
+fn tell_said<W: fmt::Write>(f: &mut fmt::Formatter<W>, said: &Said) -> fmt::Result {
     match said {
         Said::Done => write!(f, "done"),
         Said::Asks(chip, _) => write!(f, "asks {chip}"),
@@ -81,12 +81,12 @@ fn tell_said<W: fmt::Write>(f: &mut fmt::Formatter<W>, said: Said) -> fmt::Resul
 
 fn tell_accepted<W: fmt::Write>(
     f: &mut fmt::Formatter<W>,
-    acceptance: Acceptance,
-    ran: Option<Register>,
+    acceptance: &Acceptance,
+    ran: Option<&Register>,
 ) -> fmt::Result {
     let list = acceptance.list;
     write!(f, "accepted list {list}: row")?;
-    tell_row(f, acceptance.row)?;
+    tell_row(f, &acceptance.row)?;
     write!(f, "; unknown to the office:")?;
     tell_unknown(f, acceptance)?;
     write!(f, "; ran")?;
@@ -97,7 +97,7 @@ fn tell_accepted<W: fmt::Write>(
 }
 
 /// A space before each program.
-fn tell_row<W: fmt::Write>(f: &mut fmt::Formatter<W>, row: Register) -> fmt::Result {
+fn tell_row<W: fmt::Write>(f: &mut fmt::Formatter<W>, row: &Register) -> fmt::Result {
     for digest in row.as_slice() {
         let plain = Plain(digest.bytes);
         write!(f, " {plain}")?;
@@ -106,7 +106,7 @@ fn tell_row<W: fmt::Write>(f: &mut fmt::Formatter<W>, row: Register) -> fmt::Res
 }
 
 /// Those of the row that the flags do not know.
-fn tell_unknown<W: fmt::Write>(f: &mut fmt::Formatter<W>, acceptance: Acceptance) -> fmt::Result {
+fn tell_unknown<W: fmt::Write>(f: &mut fmt::Formatter<W>, acceptance: &Acceptance) -> fmt::Result {
     let mut unknown = 0u32;
     for (digest, known) in acceptance
         .row
